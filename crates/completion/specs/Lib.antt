@@ -1,0 +1,2 @@
+-- Rule 5: the completed table.
+pub mod Completed

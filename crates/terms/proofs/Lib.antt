@@ -1,0 +1,6 @@
+-- The laws of the words in specs/, a file for each notion.
+pub mod MonomialLaws
+pub mod IdealLaws
+pub mod OrderLaws
+pub mod RowsLaws
+pub mod RefusalLaws

@@ -1,0 +1,7 @@
+-- The words in which every rule is written: monomials and tables, rule 1, the order of rows, rows as bytes, refusals.
+pub mod Tests
+pub mod Monomials
+pub mod Ideal
+pub mod Order
+pub mod Rows
+pub mod Refusals

@@ -1,0 +1,50 @@
+-- Monomials and tables.
+--
+--   Monomial         its exponents, first variable first
+--   Table            its rows, in order
+--   u ! i            the exponent of variable i. Variables count from 1; what is no variable of u has exponent 0
+--   rowAt G r        row r of G. Rows count from 0
+--   u ∈ G            u is a row of G
+--   OfSize n G       each row of G has n exponents
+--   SameBefore i u v u and v are equal in variables 1 to i − 1
+--   times u i k      u times variable i to the power k
+--   degree u         the total degree of u
+--
+-- Since each exponent past the last variable reads as 0, a rule over 'each variable' needs no bound.
+use mathlib.Core.Path.{_≡_}
+use mathlib.Core.List.{List, [], _∷_, List·Memᴰ}
+use Prim.Native.Nat.{ℕ, zero, suc, _+_, _<_}
+use lib.ListN.{length, getD, set}
+
+abbrev pub Monomial : Type 0
+Monomial = List ℕ
+
+abbrev pub Table : Type 0
+Table = List Monomial
+
+infixl 90 _!_
+infix 45 _∈_
+
+abbrev pub _!_ : Monomial → ℕ → ℕ
+u ! zero = 0
+u ! (suc i) = getD u i 0
+
+abbrev pub rowAt : Table → ℕ → Monomial
+rowAt G r = getD G r []
+
+abbrev pub _∈_ : Monomial → Table → Type 0
+u ∈ G = List·Memᴰ u G
+
+abbrev pub OfSize : ℕ → Table → Type 0
+OfSize n G = (u : Monomial) → u ∈ G → length u ≡ n
+
+abbrev pub SameBefore : ℕ → Monomial → Monomial → Type 0
+SameBefore i u v = (j : ℕ) → j < i → u ! j ≡ v ! j
+
+abbrev pub times : Monomial → ℕ → ℕ → Monomial
+times u zero k = u
+times u (suc i) k = set u i (u ! suc i + k)
+
+unfoldable pub degree : Monomial → ℕ
+degree [] = 0
+degree (a ∷ u) = a + degree u

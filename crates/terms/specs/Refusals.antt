@@ -1,0 +1,84 @@
+-- The refusal table: numbers, their conditions, and the order in which they are tried.
+--
+--   Check            a number of the table with its condition, and the test of that condition
+--   refusal checks   the number of the first check whose condition holds, 0 where none does
+--   Refuses checks m m is given: its condition holds, and none earlier in the order does
+--   Accepts checks   no condition holds
+--   tableChecks n bytes   the checks 1 to 4, which every operation on a table begins with
+--
+-- An operation's list is `tableChecks` and then its own checks.
+use mathlib.Core.Path.{_≡_, sym, ap, _∙_}
+use mathlib.Core.Bool.{Bool, not, _&&_}
+use mathlib.Core.List.{List, [], _∷_, _++_, List·Memᴰ}
+use Prim.Native.Nat.{ℕ, _+_, _*_, _/_, _%_, _≤_, _<_}
+use native.Mathlib.Nat.{mul-mod-left, div-add-mod'}
+use native.Mathlib.Omega.{arith}
+use lib.Dec.{leb, ltb, eqb, lit<}
+use lib.ListN.{length}
+use Rattle.terms.specs.Tests.{Tests, pick, any, tests-as, tests-le, tests-lt, tests-eq, tests-and, tests-not, tests-any}
+use Rattle.terms.specs.Rows.{rows, firstRows}
+
+pub record Check : Type 1 where
+  pub number : ℕ
+  pub positive : 0 < number
+  pub Condition : Type 0
+  pub test : Bool
+  pub agrees : Tests test Condition
+
+unfoldable pub refusal : List Check → ℕ
+refusal [] = 0
+refusal (c ∷ checks) = pick (c .test) (c .number) (refusal checks)
+
+abbrev pub Accepts : List Check → Type 1
+Accepts checks = (c : Check) → List·Memᴰ c checks → c .Condition → ⊥
+
+pub record Refuses (checks : List Check) (m : ℕ) : Type 1 where
+  pub earlier : List Check
+  pub check : Check
+  pub later : List Check
+  pub order : checks ≡ earlier ++ (check ∷ later)
+  pub number : check .number ≡ m
+  pub holds : check .Condition
+  pub none : Accepts earlier
+
+-- 1: n is not 1 to 6
+abbrev pub NotOneToSix : ℕ → Type 0
+NotOneToSix n = (0 < n) × (n ≤ 6) → ⊥
+
+-- 2: the table's length is no multiple of n
+abbrev pub NoMultiple : ℕ → List ℕ → Type 0
+NoMultiple n bytes = (k : ℕ) → length bytes ≡ k * n → ⊥
+
+-- 3: more than 4,096 rows
+abbrev pub TooManyRows : ℕ → List ℕ → Type 0
+TooManyRows n bytes = 4096 < length (rows n bytes)
+
+-- 4: an entry above 50
+abbrev pub EntryAbove50 : List ℕ → Type 0
+EntryAbove50 bytes = (e : ℕ) × List·Memᴰ e bytes × (50 < e)
+
+pub tests-notOneToSix : (n : ℕ) → Tests (not (ltb 0 n && leb n 6)) (NotOneToSix n)
+tests-notOneToSix n = tests-not (tests-and (tests-lt 0 n) (λ p. tests-le n 6))
+
+pub tests-noMultiple : (n : ℕ) (bytes : List ℕ) → Tests (not (eqb (length bytes % n) 0)) (NoMultiple n bytes)
+tests-noMultiple n bytes = tests-as (tests-not (tests-eq (length bytes % n) 0))
+    (λ f k e. f (ap (λ (x : ℕ). x % n) e ∙ mul-mod-left k n))
+    (λ f e. f (length bytes / n) (sym (div-add-mod' (length bytes) n) ∙ omega (arith, e)))
+
+pub tests-tooManyRows : (n : ℕ) (bytes : List ℕ) → Tests (ltb 4096 (length (rows n bytes))) (TooManyRows n bytes)
+tests-tooManyRows n bytes = tests-lt 4096 (length (rows n bytes))
+
+pub tests-entryAbove50 : (bytes : List ℕ) → Tests (any (λ e. ltb 50 e) bytes) (EntryAbove50 bytes)
+tests-entryAbove50 bytes = tests-any bytes (λ (e : ℕ) m. tests-lt 50 e)
+
+-- the check that gives m where P holds
+abbrev pub check : (m : ℕ) {b : Bool} {P : Type 0} → 0 < m → Tests b P → Check
+check m {b} {P} p t = record { number = m; positive = p; Condition = P; test = b; agrees = t }
+
+abbrev pub tableChecks : ℕ → List ℕ → List Check
+tableChecks n bytes =
+    check 1 (lit< tt) (tests-notOneToSix n)
+    ∷ check 2 (lit< tt) (tests-noMultiple n bytes)
+    ∷ check 3 (lit< tt) (tests-tooManyRows n bytes)
+    ∷ check 4 (lit< tt) (tests-entryAbove50 bytes)
+    ∷ []

@@ -1,17 +1,224 @@
-// x
+// What every operation stands on: a row by value, the three counters, rows of a flat table, divisibility, the order
+// of rows, and the checks 1 to 4 that all operations on a table share.
+ghost use mathlib.Core.Path.{_≡_};
+ghost use Prim.Native.Nat.{ℕ, suc, _+_, _*_, _≤_, _<_};
+ghost use lib.Dec.{ltb};
+ghost use lib.ListN.{length};
+ghost use Rattle.terms.specs.Tests.{any};
+ghost use Rattle.terms.specs.Monomials.{_!_, rowAt, degree};
+ghost use Rattle.terms.specs.Ideal.{FirstFailure, dividesTest};
+ghost use Rattle.terms.specs.Order.{Compares, precedesTest, ascendingTest};
+ghost use Rattle.terms.specs.Rows.{rows, asRow, putRow};
+ghost use Rattle.terms.specs.Refusals.{refusal, tableChecks};
+
+// The most rows that a table may have, and the largest entry.
+pub const MOST_ROWS: usize = 4096;
+pub const LARGEST_ENTRY: u8 = 50;
+
+// A row: its six exponents, of which the first n count and the others are 0.
 pub struct Row {
     pub exponents: [u8; 6],
     pub n: usize,
 }
 
+// The number of a variable, from 1; 0 is no variable.
+pub struct Variable(pub usize);
+
+// A total degree.
+pub struct Degree(pub usize);
+
+// The number of a row, from 0.
+pub struct RowNumber(pub usize);
+
+// What a comparison of two rows says of the first.
 pub enum Order {
     Less,
     Equal,
     Greater,
 }
 
-pub struct Variable(pub usize);
+impl Variable {
+    pub fn next(self) -> Variable
+        requires { ⌜ self .0 < 65536 ⌝ }
+        ensures { λ r. ⌜ r .0 ≡ self .0 + 1 ⌝ }
+    {
+        Variable(self.0 + 1)
+    }
+}
 
-pub struct Degree(pub usize);
+impl RowNumber {
+    pub fn next(self) -> RowNumber
+        requires { ⌜ self .0 < 65536 ⌝ }
+        ensures { λ r. ⌜ r .0 ≡ self .0 + 1 ⌝ }
+    {
+        RowNumber(self.0 + 1)
+    }
+}
 
-pub struct RowNumber(pub usize);
+// Row k of a table.
+pub fn row_at(table: &[u8], n: usize, k: RowNumber) -> Row
+    requires { ⌜ (n ≤ 6) × (k .0 < length (rows n (now table))) ⌝ }
+    ensures { λ r. ⌜ r ≡ asRow n (rowAt (rows n (now (table .entry))) (k .0)) ⌝ }
+{
+    let mut exponents = [0u8; 6];
+    let number = k.0;
+    let base = number * n;
+    let mut i = 0;
+    while i < n {
+        exponents[i] = table[base + i];
+        i += 1;
+    }
+    Row { exponents, n }
+}
+
+// The exponent of row k at variable i.
+pub fn exponent(table: &[u8], n: usize, k: RowNumber, i: Variable) -> u8
+    requires { ⌜ (k .0 < length (rows n (now table))) × (0 < i .0) × (i .0 ≤ n) ⌝ }
+    ensures { λ r. ⌜ r ≡ rowAt (rows n (now (table .entry))) (k .0) ! (i .0) ⌝ }
+{
+    let number = k.0;
+    let variable = i.0;
+    table[number * n + (variable - 1)]
+}
+
+// Row k of a lent buffer becomes r; the other bytes stay.
+pub fn put_row(buffer: &mut [u8], n: usize, k: RowNumber, r: Row)
+    requires { ⌜ (n ≤ 6) × (k .0 * n + n ≤ length (now buffer)) ⌝ }
+    ensures { λ _. ⌜ now (buffer .exit) ≡ putRow n (k .0) (r .exponents) (now (buffer .entry)) ⌝ }
+{
+    let number = k.0;
+    let base = number * n;
+    let exponents = r.exponents;
+    for i in 0..n {
+        buffer[base + i] = exponents[i];
+    }
+}
+
+// The first variable at which u exceeds q, 0 where u divides q.
+pub fn first_failure(u: Row, q: Row) -> Variable
+    ensures { λ r. ⌜ FirstFailure (u .exponents) (q .exponents) (r .0) ⌝ }
+{
+    let mut i = 0;
+    while i < 6 {
+        if u.exponents[i] > q.exponents[i] {
+            return Variable(i + 1);
+        }
+        i += 1;
+    }
+    Variable(0)
+}
+
+// Whether no exponent of u exceeds that of q (rule 1).
+pub fn divides(u: Row, q: Row) -> bool
+    ensures { λ r. ⌜ r ≡ dividesTest (u .exponents) (q .exponents) ⌝ }
+{
+    let failure = first_failure(u, q);
+    failure.0 == 0
+}
+
+// Which of two rows comes first, or that they are equal.
+pub fn compare(u: Row, v: Row) -> Order
+    ensures { λ r. ⌜ Compares r (u .exponents) (v .exponents) ⌝ }
+{
+    let mut i = 0;
+    while i < 6 {
+        let a = u.exponents[i];
+        let b = v.exponents[i];
+        if a < b {
+            return Order::Less;
+        }
+        if b < a {
+            return Order::Greater;
+        }
+        i += 1;
+    }
+    Order::Equal
+}
+
+// The total degree of a row.
+pub fn degree_of(u: Row) -> Degree
+    ensures { λ r. ⌜ r .0 ≡ degree (u .exponents) ⌝ }
+{
+    let exponents = u.exponents;
+    let mut sum: usize = 0;
+    let mut i = 0;
+    while i < 6 {
+        sum += exponents[i] as usize;
+        i += 1;
+    }
+    Degree(sum)
+}
+
+// Whether row k precedes the next row.
+pub fn precedes_next(table: &[u8], n: usize, k: RowNumber) -> bool
+    requires { ⌜ suc (k .0) < length (rows n (now table)) ⌝ }
+    ensures { λ r. ⌜ r ≡ precedesTest (rowAt (rows n (now (table .entry))) (k .0)) (rowAt (rows n (now (table .entry))) (suc (k .0))) ⌝ }
+{
+    let number = k.0;
+    let base = number * n;
+    let mut i = 0;
+    while i < n {
+        let a = table[base + i];
+        let b = table[base + n + i];
+        if a < b {
+            return true;
+        }
+        if b < a {
+            return false;
+        }
+        i += 1;
+    }
+    false
+}
+
+// Whether the rows ascend strictly.
+pub fn ascends(n: usize, table: &[u8]) -> bool
+    requires { ⌜ 0 < n ⌝ }
+    ensures { λ r. ⌜ r ≡ ascendingTest (rows n (now (table .entry))) ⌝ }
+{
+    let count = table.len() / n;
+    let mut k = 1;
+    while k < count {
+        if !precedes_next(table, n, RowNumber(k - 1)) {
+            return false;
+        }
+        k += 1;
+    }
+    true
+}
+
+// Whether some entry is above 50.
+pub fn has_large_entry(bytes: &[u8]) -> bool
+    ensures { λ r. ⌜ r ≡ any (λ e. ltb 50 e) (now (bytes .entry)) ⌝ }
+{
+    let mut i = 0;
+    while i < bytes.len() {
+        if bytes[i] > LARGEST_ENTRY {
+            return true;
+        }
+        i += 1;
+    }
+    false
+}
+
+// The number of the first of the checks 1 to 4 that refuses the table, 0 where none does.
+pub fn table_refusal(n: usize, table: &[u8]) -> u8
+    ensures { λ r. ⌜ r ≡ refusal (tableChecks n (now (table .entry))) ⌝ }
+{
+    if n == 0 {
+        return 1;
+    }
+    if 6 < n {
+        return 1;
+    }
+    if table.len() % n != 0 {
+        return 2;
+    }
+    if MOST_ROWS < table.len() / n {
+        return 3;
+    }
+    if has_large_entry(table) {
+        return 4;
+    }
+    0
+}

@@ -1,1 +1,3 @@
-pub fn one() -> u8 { 1 }
+pub fn one() -> u8 {
+    1
+}

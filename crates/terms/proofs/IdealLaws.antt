@@ -7,17 +7,17 @@
 --   inside-zeros           a row of zeros gives every monomial
 --   same-ideal-refl, -sym, -trans, same-ideal-rows
 --   failure-divides, failure-unique   a first failure is 0 exactly where u divides q, and there is one only
-use mathlib.Core.Path.{_≡_, refl, sym, ap, _∙_, subst}
-use mathlib.Core.List.{List, [], _∷_, List·Memᴰ·head, List·Memᴰ·not-nil}
-use mathlib.Core.Logic.{_⊎_, inl, inr, ⊎-elim, by-cases}
-use Prim.Native.Nat.{ℕ, zero, suc, _≤_, _<_}
-use native.Mathlib.Decide.{decLe, decLt}
+use mathlib.Core.Path.{_≡_, sym, _∙_, subst}
+use mathlib.Core.List.{[], List·Memᴰ·not-nil}
+use mathlib.Core.Logic.{inl, inr, by-cases}
+use Prim.Native.Nat.{ℕ, _<_}
+use native.Mathlib.Decide.{decLe, decLt, ℕ-discrete}
 use native.Mathlib.Omega.{arith}
-use lib.Dec.{leb}
+use lib.Dec.{eqb}
 use lib.ListN.{length}
-use Rattle.terms.specs.Tests.{Tests, decide, tests-as, tests-le, tests-each, tests-any}
+use Rattle.terms.specs.Tests.{Tests, decide, tests-as, tests-same, tests-le, tests-eq, tests-each, tests-any}
 use Rattle.terms.specs.Monomials.{Monomial, Table, _!_, _∈_}
-use Rattle.terms.specs.Ideal.{Divides, Inside, SameIdeal, FirstFailure, FailsFirstAt, dividesTest, insideTest}
+use Rattle.terms.specs.Ideal.{Divides, Inside, SameIdeal, FirstFailure, dividesTest, insideTest}
 use Rattle.terms.proofs.MonomialLaws.{beyond, positive}
 
 -- at what is no variable of u it has exponent 0, so u's own variables decide
@@ -90,3 +90,9 @@ failure-unique {i = i} (inr h) (inl k) = absurd (omega (arith, h .exceeds, k .1 
 failure-unique {i = i} {j = j} (inr h) (inr k) = by-cases (decLt i j)
     (λ l. absurd (omega (arith, h .exceeds, k .first i l)))
     (λ g. by-cases (decLt j i) (λ l. absurd (omega (arith, k .exceeds, h .first j l))) (λ f. omega arith))
+
+-- so the test for 0 is the test of divisibility
+pub failure-test : {u q : Monomial} {i : ℕ} → FirstFailure u q i → eqb i 0 ≡ dividesTest u q
+failure-test {u} {q} {i} f = tests-same (eqb i 0) (dividesTest u q)
+    (tests-as (tests-eq i 0) (failure-divides f) (λ d. by-cases (ℕ-discrete i 0) (λ e. e) (λ g. absurd (failure-exceeds f g d))))
+    (tests-divides u q)

@@ -4,3 +4,4 @@ pub mod IdealLaws
 pub mod OrderLaws
 pub mod RowsLaws
 pub mod RefusalLaws
+pub mod LoopLaws

@@ -6,16 +6,16 @@
 --   same-all               monomials of one size that are equal before each variable are equal
 --   at-or-other, three     cases on a variable: i itself or another; before i, i, behind i
 --   degree-le              a monomial that divides another has no larger degree
-use mathlib.Core.Path.{_≡_, refl, sym, ap, _∙_, subst}
-use mathlib.Core.List.{List, [], _∷_, List·Memᴰ, List·Memᴰ·head, List·Memᴰ·tail, List·Memᴰ·cases-cons, List·Memᴰ·not-nil}
+use mathlib.Core.Path.{_≡_, refl, sym, ap, subst}
+use mathlib.Core.List.{[], _∷_}
 use mathlib.Core.Logic.{_⊎_, inl, inr, ⊎-elim, by-cases}
 use Prim.Native.Nat.{ℕ, zero, suc, _+_, _≤_, _<_}
-use native.Mathlib.Nat.{not-suc-le-zero, eq-or-lt-of-le, le-of-suc-le-suc, suc-inj}
-use native.Mathlib.Decide.{decLt, ℕ-discrete}
+use native.Mathlib.Nat.{not-suc-le-zero, eq-or-lt-of-le, le-of-suc-le-suc}
+use native.Mathlib.Decide.{decLe, decLt, ℕ-discrete}
 use native.Mathlib.Omega.{arith}
-use lib.ListN.{length, getD, set, length-set, List·getD-eq-default}
+use lib.ListN.{length, length-set, List·getD-eq-default}
 use lib.Seq.{getD-set-same, getD-set-other, set-out, ext-getD}
-use Rattle.terms.specs.Monomials.{Monomial, Table, _!_, _∈_, rowAt, SameBefore, times, degree}
+use Rattle.terms.specs.Monomials.{Monomial, _!_, SameBefore, times, degree}
 
 -- ---- exponents
 
@@ -46,6 +46,14 @@ three P i b h a = at-or-other P i h (λ j e. by-cases (decLt j i) (b j) (λ g. a
 -- what holds below i and at i holds below suc i
 pub below-suc : (P : ℕ → Type 0) (i : ℕ) → ((j : ℕ) → j < i → P j) → P i → (j : ℕ) → j < suc i → P j
 below-suc P i b p j h = ⊎-elim (λ e. subst P (sym e) p) (b j) (eq-or-lt-of-le (le-of-suc-le-suc h))
+
+-- what holds up to i and at the next holds up to the next: a loop over the variables goes on
+pub upto-next : (P : ℕ → Type 0) (i : ℕ) → ((j : ℕ) → j ≤ i → P j) → P (suc i) → (j : ℕ) → j ≤ i + 1 → P j
+upto-next P i b p j h = by-cases (decLe j i) (b j) (λ g. let e : suc i ≡ j = omega arith in subst P e p)
+
+-- and before the first variable it holds where it holds of 0
+pub upto-zero : (P : ℕ → Type 0) → P 0 → (j : ℕ) → j ≤ 0 → P j
+upto-zero P p j h = let e : 0 ≡ j = omega arith in subst P e p
 
 -- ---- products
 

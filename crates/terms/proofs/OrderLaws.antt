@@ -5,22 +5,20 @@
 --   ascending-between      in an ascending table an earlier row precedes a later one
 --   ascending-unique       two ascending tables with the same rows are equal
 --   compares-unique        a comparison has one answer
-use mathlib.Core.Path.{_≡_, refl, sym, ap, ap₂, _∙_, subst}
-use mathlib.Core.Bool.{Bool, true, false, _&&_, _||_}
-use mathlib.Core.List.{List, [], _∷_, List·Memᴰ, List·Memᴰ·head, List·Memᴰ·tail, List·Memᴰ·cases-cons, List·Memᴰ·not-nil}
+use mathlib.Core.Path.{_≡_, refl, sym, ap₂, _∙_, subst}
+use mathlib.Core.List.{[], _∷_, List·Memᴰ·head, List·Memᴰ·tail, List·Memᴰ·cases-cons, List·Memᴰ·not-nil}
 use mathlib.Core.Logic.{_⊎_, inl, inr, ⊎-elim, by-cases}
-use Prim.Native.Nat.{ℕ, zero, suc, _+_, _≤_, _<_}
+use Prim.Native.Nat.{ℕ, zero, suc, _<_}
 use native.Mathlib.Nat.{not-suc-le-zero, le-of-suc-le-suc, eq-or-lt-of-le}
-use native.Mathlib.Decide.{decLe, decLt, ℕ-discrete}
+use native.Mathlib.Decide.{decLt}
 use native.Mathlib.Omega.{arith}
-use lib.Dec.{T, ltb, eqb}
-use lib.ListN.{length, getD}
+use lib.ListN.{length}
 use Rattle.terms.specs.Tests.{Tests, tests-as, tests-and, tests-or, tests-lt, tests-eq}
 use Rattle.terms.specs.Monomials.{Monomial, Table, _!_, _∈_, rowAt, SameBefore}
 use Rattle.terms.specs.Order.{Precedes, Ascending, Compares, precedesTest, ascendingTest}
 use Rattle.terms.specs.declared.Order.{Order}
 use Rattle.terms.specs.declared.Order.the-variants.{Less, Equal, Greater}
-use Rattle.terms.proofs.MonomialLaws.{before-first, before-zero, below-suc}
+use Rattle.terms.proofs.MonomialLaws.{before-first}
 
 -- ---- the order is strict
 

@@ -8,17 +8,15 @@ use mathlib.Core.Path.{_≡_, refl, sym, ap, _∙_, subst}
 use mathlib.Core.Bool.{Bool, true, false}
 use mathlib.Core.List.{List, [], _∷_, _++_, List·Memᴰ, List·Memᴰ·head, List·Memᴰ·tail, List·Memᴰ·cases-cons, List·Memᴰ·not-nil}
 use mathlib.Core.Logic.{_⊎_, inl, inr, ⊎-elim, by-cases}
-use Prim.Native.Nat.{ℕ, zero, suc, _+_, _*_, _/_, _%_, _≤_, _<_}
+use Prim.Native.Nat.{ℕ, _*_, _%_, _≤_, _<_}
 use native.Mathlib.Nat.{not-suc-le-zero, div-add-mod', mul-mod-left}
-use native.Mathlib.Decide.{decLe, decLt, ℕ-discrete}
+use native.Mathlib.Decide.{decLe, ℕ-discrete}
 use native.Mathlib.Omega.{arith}
-use lib.Dec.{T, eqb}
-use lib.ListN.{length, getD}
-use Rattle.terms.specs.Tests.{Tests, pick, decide, true-tests, false-tests, tests-true, tests-false, tests-le, tests-lt, tests-and}
-use Rattle.terms.specs.Monomials.{Monomial, Table, _!_, _∈_, OfSize}
+use lib.ListN.{length}
+use Rattle.terms.specs.Tests.{pick, decide, true-tests, false-tests, tests-le, tests-lt, tests-and}
 use Rattle.terms.specs.Rows.{rows}
 use Rattle.terms.proofs.RowsLaws.{length-rows}
-use Rattle.terms.specs.Refusals.{Check, refusal, Refuses, Accepts, NotOneToSix, NoMultiple, TooManyRows, EntryAbove50, tableChecks}
+use Rattle.terms.specs.Refusals.{Check, refusal, Refuses, Accepts, NoMultiple, tableChecks}
 
 -- the first check refuses, or it passes and the others decide
 first-check : (c : Check) (checks : List Check) → (c .Condition × (refusal (c ∷ checks) ≡ c .number)) ⊎ ((c .Condition → ⊥) × (refusal (c ∷ checks) ≡ refusal checks))

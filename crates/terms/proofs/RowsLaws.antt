@@ -6,17 +6,17 @@
 --   row-fits               a row below the count lies within the bytes
 --   padded-at, length-padded   a padded row has the exponents of the row, and six of them
 --   entry-at               an exponent of a row is a byte of the table
-use mathlib.Core.Path.{_≡_, refl, sym, ap, _∙_, subst}
-use mathlib.Core.List.{List, [], _∷_, _++_, List·Memᴰ, List·Memᴰ·head, List·Memᴰ·tail, List·Memᴰ·cases-cons, List·Memᴰ·not-nil}
-use mathlib.Core.Logic.{_⊎_, inl, inr, ⊎-elim, by-cases}
+use mathlib.Core.Path.{_≡_, refl, sym, ap, _∙_}
+use mathlib.Core.List.{List, [], _∷_, _++_, append-assoc, append-nil, List·Memᴰ, List·Memᴰ·head, List·Memᴰ·tail, List·Memᴰ·cases-cons, List·Memᴰ·not-nil}
+use mathlib.Core.Logic.{⊎-elim, by-cases}
 use Prim.Native.Nat.{ℕ, zero, suc, _+_, _*_, _-_, _/_, _≤_, _<_}
-use native.Mathlib.Nat.{not-suc-le-zero, le-of-suc-le-suc, mul-le-mul-right, add-mul, one-mul, mul-div-left, div-mul-le-self}
+use native.Mathlib.Nat.{zero-add, not-suc-le-zero, le-of-suc-le-suc, mul-le-mul-right, add-mul, one-mul, mul-div-left, div-mul-le-self}
 use native.Mathlib.Decide.{decLt}
 use native.Mathlib.Omega.{arith}
-use lib.ListN.{length, getD, take, drop, replicate, length-append, length-drop, length-replicate, getD-replicate, List·getD-append, List·getD-eq-default}
-use lib.Seq.{getD-take, getD-drop, getD-append-add, length-take-le, drop-drop, take-at, drop-at, take-all, take-add}
-use Rattle.terms.specs.Monomials.{Monomial, Table, _!_, _∈_, rowAt, OfSize}
-use Rattle.terms.specs.Rows.{firstRows, rows, flat, padded}
+use lib.ListN.{set, length, getD, take, drop, replicate, length-append, length-drop, length-replicate, getD-replicate, List·getD-append, List·getD-eq-default}
+use lib.Seq.{paste, getD-take, getD-drop, getD-append-add, length-take-le, drop-drop, take-at, drop-at, take-all, take-add}
+use Rattle.terms.specs.Monomials.{Monomial, Table, _!_, rowAt, OfSize}
+use Rattle.terms.specs.Rows.{firstRows, rows, flat, padded, putRow}
 use Rattle.terms.proofs.MonomialLaws.{beyond}
 
 -- ---- numbers
@@ -109,7 +109,7 @@ pub firstRows-flat : (n : ℕ) (G : Table) (rest : List ℕ) → OfSize n G → 
 unfolding firstRows flat
 firstRows-flat n [] rest z = refl
 firstRows-flat n (u ∷ G) rest z =
-    let e : (u ++ flat G) ++ rest ≡ u ++ (flat G ++ rest) = simp mathlib.Core.List.append-assoc in
+    let e : (u ++ flat G) ++ rest ≡ u ++ (flat G ++ rest) = append-assoc u (flat G) rest in
     let l : length u ≡ n = z u (List·Memᴰ·head refl) in
     rw (e, take-at u (flat G ++ rest) n l, drop-at u (flat G ++ rest) n l, firstRows-flat n G rest (λ v m. z v (List·Memᴰ·tail m)))
 
@@ -117,7 +117,7 @@ pub rows-flat : (n : ℕ) (G : Table) → 0 < n → OfSize n G → rows n (flat 
 unfolding rows
 rows-flat n G p z =
     let c : length (flat G) / n ≡ length G = ap (λ (m : ℕ). m / n) (length-flat n G z) ∙ mul-div-left (length G) p in
-    let e : flat G ++ [] ≡ flat G = mathlib.Core.List.append-nil (flat G) in
+    let e : flat G ++ [] ≡ flat G = append-nil (flat G) in
     ap (λ (k : ℕ). firstRows n k (flat G)) c ∙ rw e at (firstRows-flat n G [] z)
 
 flat-firstRows : (n k : ℕ) (t : List ℕ) → flat (firstRows n k t) ≡ take (k * n) t
@@ -153,3 +153,39 @@ padded-at u (suc i) = by-cases (decLt i (length u))
     ∙ getD-append-add u (replicate (6 - length u) 0) (i - length u) 0
     ∙ zeros-at (6 - length u) (i - length u)
     ∙ sym (beyond u (suc i) (omega arith)))
+
+-- the same of the row behind row r
+pub next-entry-at : (n : ℕ) (t : List ℕ) (r i : ℕ) → suc r < length (rows n t) → i < n → rowAt (rows n t) (suc r) ! suc i ≡ getD t (r * n + n + i) 0
+next-entry-at n t r i l h =
+    let e : suc r * n + i ≡ r * n + n + i = omega arith in
+    entry-at n t (suc r) i l h ∙ ap (λ (k : ℕ). getD t k 0) e
+
+-- both lie within the bytes
+pub two-rows-within : (n : ℕ) (t : List ℕ) (r : ℕ) → suc r < length (rows n t) → r * n + n + n ≤ length t
+two-rows-within n t r l = omega (arith, row-within n t (suc r) l)
+
+-- ---- a row written in its place
+
+-- behind the first row, writing row k + 1 is writing row k
+put-later : (n k : ℕ) (u t : List ℕ) → n ≤ length t → drop n (paste t (suc k * n) u n) ≡ paste (drop n t) (k * n) u n
+put-later n k u t h =
+    let e : suc k * n ≡ n + k * n = omega arith in
+    let f : n + k * n + n ≡ n + (k * n + n) = omega arith in
+    let l : length (take n t) ≡ n = length-take-le n t h in
+    rw (e, f, take-add n (k * n) t, append-assoc (take n t) (take (k * n) (drop n t)) (take n u), append-assoc (take n t) (take (k * n) (drop n t) ++ take n u) (drop (n + (k * n + n)) t), drop-at (take n t) (take (k * n) (drop n t) ++ take n u ++ drop (n + (k * n + n)) t) n l, ← drop-drop (k * n + n) n t)
+
+put-keeps : (n k : ℕ) (u t : List ℕ) → n ≤ length t → take n (paste t (suc k * n) u n) ≡ take n t
+put-keeps n k u t h =
+    let e : suc k * n ≡ n + k * n = omega arith in
+    let l : length (take n t) ≡ n = length-take-le n t h in
+    rw (e, take-add n (k * n) t, append-assoc (take n t) (take (k * n) (drop n t)) (take n u), append-assoc (take n t) (take (k * n) (drop n t) ++ take n u) (drop (n + k * n + n) t), take-at (take n t) (take (k * n) (drop n t) ++ take n u ++ drop (n + k * n + n) t) n l)
+
+pub firstRows-put : (n count k : ℕ) (u t : List ℕ) → k < count → count * n ≤ length t → n ≤ length u → firstRows n count (putRow n k u t) ≡ set (firstRows n count t) k (take n u)
+unfolding firstRows putRow
+firstRows-put n zero k u t l h z = absurd (not-suc-le-zero l)
+firstRows-put n (suc count) zero u t l h z =
+    let e : 0 * n ≡ 0 = omega arith in
+    let s : length (take n u) ≡ n = length-take-le n u z in
+    rw (e, zero-add n, take-at (take n u) (drop n t) n s, drop-at (take n u) (drop n t) n s)
+firstRows-put n (suc count) (suc k) u t l h z =
+    rw (put-keeps n k u t (omega arith), put-later n k u t (omega arith), firstRows-put n count k u (drop n t) (le-of-suc-le-suc l) (omega (arith, length-drop n t)) z)

@@ -24,7 +24,6 @@ Table = List Monomial
 
 infixl 90 _!_
 infix 45 _∈_
-
 abbrev pub _!_ : Monomial → ℕ → ℕ
 u ! zero = 0
 u ! (suc i) = getD u i 0

@@ -10,13 +10,13 @@
 use mathlib.Core.Path.{_≡_, sym, ap, _∙_}
 use mathlib.Core.Bool.{Bool, not, _&&_}
 use mathlib.Core.List.{List, [], _∷_, _++_, List·Memᴰ}
-use Prim.Native.Nat.{ℕ, _+_, _*_, _/_, _%_, _≤_, _<_}
+use Prim.Native.Nat.{ℕ, _*_, _/_, _%_, _≤_, _<_}
 use native.Mathlib.Nat.{mul-mod-left, div-add-mod'}
 use native.Mathlib.Omega.{arith}
 use lib.Dec.{leb, ltb, eqb, lit<}
 use lib.ListN.{length}
 use Rattle.terms.specs.Tests.{Tests, pick, any, tests-as, tests-le, tests-lt, tests-eq, tests-and, tests-not, tests-any}
-use Rattle.terms.specs.Rows.{rows, firstRows}
+use Rattle.terms.specs.Rows.{rows}
 
 pub record Check : Type 1 where
   pub number : ℕ

@@ -19,7 +19,6 @@ use native.Mathlib.Omega.{arith}
 use lib.Dec.{T, leb, eqb, ltb, leb→le, le→leb, eqb→eq, eqb-refl, not-T, T-not}
 
 infixr 25 _implies_
-
 pub record Tests (b : Bool) (P : Type 0) : Type 0 where
   pub sound : T b → P
   pub complete : P → T b

@@ -13,6 +13,7 @@ ghost use Rattle.terms.specs.Refusals.{refusal, tableChecks};
 
 // The most rows that a table may have, and the largest entry.
 pub const MOST_ROWS: usize = 4096;
+
 pub const LARGEST_ENTRY: u8 = 50;
 
 // A row: its six exponents, of which the first n count and the others are 0.

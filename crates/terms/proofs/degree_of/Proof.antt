@@ -1,55 +1,55 @@
+-- What is summed and the degree of the exponents that are left make the degree.
 use borrow.Author.Needs.{needs}
 use native.Mathlib.Omega.{arith}
-use borrow.Author.Tests.{le-ltb, lt-ltb, le-leb, lt-leb, eq-eqb, ne-eqb, ltb-true, ltb-false, leb-true, leb-false, eqb-true, eqb-false}
-use mathlib.Core.Path.{_≡_, refl, sym, ap, _∙_}
-use mathlib.Core.Logic.{⊎-elim}
-use mathlib.Core.List.{List, [], _∷_, _++_}
-use mathlib.Core.Bool.{Bool, true, false}
-use Prim.Native.Nat.{ℕ, zero, suc, _+_, _*_, _-_, _/_, _%_, _≤_, _<_}
-use lib.ListN.{length, take, drop, getD, set, replicate}
-use denote.Ref.{now}
+use mathlib.Core.Path.{_≡_}
+use Prim.Native.Nat.{_+_, _*_, _-_, _≤_}
+use lib.ListN.{length, drop, getD}
+use mir.Val.{Fits}
+use mir.Syntax.{w8}
+use Rattle.terms.specs.Monomials.{degree}
+use Rattle.terms.proofs.LoopLaws.{degree-next, degree-none}
 use Rattle.terms.proofs.degree_of.Statement.{statement}
 use Rattle.terms.proofs.degree_of.Tie as tie
-use Rattle.terms.proofs.degree_of.Reads as reads
-use Rattle.terms.proofs.degree_of.Lts as lts
 
 abbrev Inv-loop : tie.InvT-loop
-Inv-loop exponents sum₀ i₀ sum i = ?
+Inv-loop exponents sum₀ i₀ sum i = (i ≤ 6) × (sum + degree (drop i exponents) ≡ degree exponents) × (sum ≤ 255 * i)
 
 abbrev μ-loop : tie.MeasureT-loop
-μ-loop exponents sum₀ i₀ sum i = ?
+μ-loop exponents sum₀ i₀ sum i = 6 - i
 
--- src/lib.rt:145:5
 loop-holds : tie.Need-loop-holds Inv-loop μ-loop
-loop-holds c = ?
+loop-holds c = (omega arith, omega arith, omega arith)
 
--- src/lib.rt:146:16
 array-read-sum : tie.Need-array-read-sum Inv-loop μ-loop
-array-read-sum c = ?
+array-read-sum c = omega arith
 
--- src/lib.rt:146:16
 cast-sum : tie.Need-cast-sum Inv-loop μ-loop
-cast-sum c = ?
+cast-sum c = search needs
 
--- src/lib.rt:146:9
 add-sum : tie.Need-add-sum Inv-loop μ-loop
-add-sum c = ?
+add-sum c =
+    let b : Fits w8 (getD (c .before .before .before .args .u .exponents) (c .before .loop .i) 0) = search needs in
+    omega arith
 
--- src/lib.rt:147:9
 add-i : tie.Need-add-i Inv-loop μ-loop
-add-i c = ?
+add-i c = omega arith
 
--- src/lib.rt:145:5
 loop-less : tie.Need-loop-less Inv-loop μ-loop
-loop-less c = ?
+loop-less c = omega arith
 
--- src/lib.rt:145:5
 loop-again : tie.Need-loop-again Inv-loop μ-loop
-loop-again c = ?
+loop-again c =
+    let u = c .before .before .before .args .u .exponents in
+    let b : Fits w8 (getD u (c .before .loop .i) 0) = search needs in
+    let six : length u ≡ 6 = search needs in
+    let e = degree-next u (c .before .loop .i) (omega arith) in
+    (omega arith, omega arith, omega arith)
 
--- src/lib.rt:139:1
 returns : tie.Need-returns Inv-loop μ-loop
-returns c = ?
+returns c =
+    let u = c .before .before .before .args .u .exponents in
+    let six : length u ≡ 6 = search needs in
+    omega (arith, degree-none u (c .before .loop .i) (omega arith))
 
 pub degree-of-spec : {M : Type 1} → statement M
 degree-of-spec =

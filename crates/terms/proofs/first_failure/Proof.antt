@@ -1,59 +1,56 @@
+-- No exponent before the one at hand exceeds q's; the first that does is the answer.
 use borrow.Author.Needs.{needs}
 use native.Mathlib.Omega.{arith}
-use borrow.Author.Tests.{le-ltb, lt-ltb, le-leb, lt-leb, eq-eqb, ne-eqb, ltb-true, ltb-false, leb-true, leb-false, eqb-true, eqb-false}
-use mathlib.Core.Path.{_≡_, refl, sym, ap, _∙_}
-use mathlib.Core.Logic.{⊎-elim}
-use mathlib.Core.List.{List, [], _∷_, _++_}
-use mathlib.Core.Bool.{Bool, true, false}
-use Prim.Native.Nat.{ℕ, zero, suc, _+_, _*_, _-_, _/_, _%_, _≤_, _<_}
-use lib.ListN.{length, take, drop, getD, set, replicate}
-use denote.Ref.{now}
+use mathlib.Core.Path.{_≡_}
+use Prim.Native.Nat.{ℕ, _-_, _≤_}
+use lib.ListN.{length}
+use Rattle.terms.specs.Monomials.{_!_}
+use Rattle.terms.proofs.MonomialLaws.{upto-next, upto-zero}
+use Rattle.terms.proofs.LoopLaws.{fails-at, never-fails}
 use Rattle.terms.proofs.first_failure.Statement.{statement}
 use Rattle.terms.proofs.first_failure.Tie as tie
-use Rattle.terms.proofs.first_failure.Reads as reads
-use Rattle.terms.proofs.first_failure.Lts as lts
 
 abbrev Inv-loop : tie.InvT-loop
-Inv-loop u q i₀ i = ?
+Inv-loop u q i₀ i = (i ≤ 6) × ((j : ℕ) → j ≤ i → u .exponents ! j ≤ q .exponents ! j)
 
 abbrev μ-loop : tie.MeasureT-loop
-μ-loop u q i₀ i = ?
+μ-loop u q i₀ i = 6 - i
 
--- src/lib.rt:102:5
 loop-holds : tie.Need-loop-holds Inv-loop μ-loop
-loop-holds c = ?
+loop-holds c = (omega arith, upto-zero (λ j. c .args .t1 .exponents ! j ≤ c .args .t2 .exponents ! j) (omega arith))
 
--- src/lib.rt:103:12
 element-copy-out-if1 : tie.Need-element-copy-out-if1 Inv-loop μ-loop
-element-copy-out-if1 c = ?
+element-copy-out-if1 c = omega arith
 
--- src/lib.rt:103:29
 element-copy-out-if1-2 : tie.Need-element-copy-out-if1-2 Inv-loop μ-loop
-element-copy-out-if1-2 c = ?
+element-copy-out-if1-2 c = omega arith
 
--- src/lib.rt:104:29
 add-t13 : tie.Need-add-t13 Inv-loop μ-loop
-add-t13 c = ?
+add-t13 c = omega arith
 
--- src/lib.rt:104:13
 returns : tie.Need-returns Inv-loop μ-loop
-returns c = ?
+returns c =
+    let a = c .before .before .before .before .before .args in
+    let l = c .before .before .before .before .loop in
+    fails-at (a .t1 .exponents) (a .t2 .exponents) (l .i) (l .inv .1) (c .if1 .taken)
 
--- src/lib.rt:106:9
 add-i : tie.Need-add-i Inv-loop μ-loop
-add-i c = ?
+add-i c = omega arith
 
--- src/lib.rt:102:5
 loop-less : tie.Need-loop-less Inv-loop μ-loop
-loop-less c = ?
+loop-less c = omega arith
 
--- src/lib.rt:102:5
 loop-again : tie.Need-loop-again Inv-loop μ-loop
-loop-again c = ?
+loop-again c =
+    let a = c .before .before .before .before .before .args in
+    let l = c .before .before .before .before .loop in
+    (omega arith, upto-next (λ j. a .t1 .exponents ! j ≤ a .t2 .exponents ! j) (l .i) (l .inv .1) (c .if1 .left))
 
--- src/lib.rt:98:1
 returns-2 : tie.Need-returns-2 Inv-loop μ-loop
-returns-2 c = ?
+returns-2 c =
+    let a = c .before .before .args in
+    let six : length (a .t1 .exponents) ≡ 6 = search needs in
+    never-fails (a .t1 .exponents) (a .t2 .exponents) (c .before .loop .i) (omega arith) (c .before .loop .inv .1)
 
 pub first-failure-spec : {M : Type 1} → statement M
 first-failure-spec =

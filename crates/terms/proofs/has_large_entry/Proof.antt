@@ -1,51 +1,50 @@
-use borrow.Author.Needs.{needs}
+-- No entry before the one at hand is above 50, so the search from it on says what the whole search says.
 use native.Mathlib.Omega.{arith}
-use borrow.Author.Tests.{le-ltb, lt-ltb, le-leb, lt-leb, eq-eqb, ne-eqb, ltb-true, ltb-false, leb-true, leb-false, eqb-true, eqb-false}
-use mathlib.Core.Path.{_≡_, refl, sym, ap, _∙_}
-use mathlib.Core.Logic.{⊎-elim}
-use mathlib.Core.List.{List, [], _∷_, _++_}
-use mathlib.Core.Bool.{Bool, true, false}
-use Prim.Native.Nat.{ℕ, zero, suc, _+_, _*_, _-_, _/_, _%_, _≤_, _<_}
-use lib.ListN.{length, take, drop, getD, set, replicate}
+use borrow.Author.Tests.{le-ltb, lt-ltb}
+use mathlib.Core.Path.{_≡_, refl, sym, _∙_}
+use Prim.Native.Nat.{_-_, _≤_}
+use lib.ListN.{length, drop}
 use denote.Ref.{now}
+use lib.Dec.{ltb}
+use Rattle.terms.specs.Tests.{any}
+use Rattle.terms.proofs.LoopLaws.{any-stops, any-goes-on, any-past}
 use Rattle.terms.proofs.has_large_entry.Statement.{statement}
 use Rattle.terms.proofs.has_large_entry.Tie as tie
-use Rattle.terms.proofs.has_large_entry.Reads as reads
-use Rattle.terms.proofs.has_large_entry.Lts as lts
 
 abbrev Inv-loop : tie.InvT-loop
-Inv-loop bytes i₀ i = ?
+Inv-loop bytes i₀ i = (i ≤ length bytes) × (any (λ e. ltb 50 e) bytes ≡ any (λ e. ltb 50 e) (drop i bytes))
 
 abbrev μ-loop : tie.MeasureT-loop
-μ-loop bytes i₀ i = ?
+μ-loop bytes i₀ i = length bytes - i
 
--- src/lib.rt:195:5
 loop-holds : tie.Need-loop-holds Inv-loop μ-loop
-loop-holds c = ?
+loop-holds c = (omega arith, refl)
 
--- src/lib.rt:196:12
 shared-slice-read-if1 : tie.Need-shared-slice-read-if1 Inv-loop μ-loop
-shared-slice-read-if1 c = ?
+shared-slice-read-if1 c = omega arith
 
--- src/lib.rt:197:13
 returns : tie.Need-returns Inv-loop μ-loop
-returns c = ?
+returns c =
+    let t = c .before .before .before .before .args .bytes .now in
+    let l = c .before .before .before .loop in
+    sym (l .inv .1 ∙ any-stops (λ e. ltb 50 e) t (l .i) (omega arith) (lt-ltb _ _ (c .if1 .taken)))
 
--- src/lib.rt:199:9
 add-i : tie.Need-add-i Inv-loop μ-loop
-add-i c = ?
+add-i c = omega arith
 
--- src/lib.rt:195:5
 loop-less : tie.Need-loop-less Inv-loop μ-loop
-loop-less c = ?
+loop-less c = omega arith
 
--- src/lib.rt:195:5
 loop-again : tie.Need-loop-again Inv-loop μ-loop
-loop-again c = ?
+loop-again c =
+    let t = c .before .before .before .before .args .bytes .now in
+    let l = c .before .before .before .loop in
+    (omega arith, l .inv .1 ∙ any-goes-on (λ e. ltb 50 e) t (l .i) (omega arith) (le-ltb _ _ (c .if1 .left)))
 
--- src/lib.rt:191:1
 returns-2 : tie.Need-returns-2 Inv-loop μ-loop
-returns-2 c = ?
+returns-2 c =
+    let l = c .before .loop in
+    sym (l .inv .1 ∙ any-past (λ e. ltb 50 e) (c .before .before .args .bytes .now) (l .i) (omega arith))
 
 pub has-large-entry-spec : {M : Type 1} → statement M
 has-large-entry-spec =

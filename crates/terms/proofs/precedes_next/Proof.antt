@@ -1,75 +1,106 @@
-use borrow.Author.Needs.{needs}
+-- The two rows are equal before the exponent at hand; the first difference decides, and without one neither precedes.
 use native.Mathlib.Omega.{arith}
-use borrow.Author.Tests.{le-ltb, lt-ltb, le-leb, lt-leb, eq-eqb, ne-eqb, ltb-true, ltb-false, leb-true, leb-false, eqb-true, eqb-false}
-use mathlib.Core.Path.{_≡_, refl, sym, ap, _∙_}
-use mathlib.Core.Logic.{⊎-elim}
-use mathlib.Core.List.{List, [], _∷_, _++_}
-use mathlib.Core.Bool.{Bool, true, false}
-use Prim.Native.Nat.{ℕ, zero, suc, _+_, _*_, _-_, _/_, _%_, _≤_, _<_}
-use lib.ListN.{length, take, drop, getD, set, replicate}
+use mathlib.Core.Path.{_≡_, refl}
+use Prim.Native.Nat.{ℕ, suc, _-_, _≤_}
 use denote.Ref.{now}
+use Rattle.terms.specs.Tests.{tests-true, tests-false}
+use Rattle.terms.specs.Monomials.{_!_, rowAt}
+use Rattle.terms.specs.Rows.{rows}
+use Rattle.terms.proofs.MonomialLaws.{upto-next, upto-zero}
+use Rattle.terms.proofs.OrderLaws.{tests-precedes}
+use Rattle.terms.proofs.RowsLaws.{entry-at, next-entry-at, two-rows-within, row-size}
+use Rattle.terms.proofs.LoopLaws.{differs-at, never-differs, not-before, not-before-equal}
 use Rattle.terms.proofs.precedes_next.Statement.{statement}
 use Rattle.terms.proofs.precedes_next.Tie as tie
-use Rattle.terms.proofs.precedes_next.Reads as reads
-use Rattle.terms.proofs.precedes_next.Lts as lts
 
 abbrev Inv-loop : tie.InvT-loop
-Inv-loop table n number base i₀ i = ?
+Inv-loop table n number base i₀ i = (i ≤ n) × ((j : ℕ) → j ≤ i → rowAt (rows n table) number ! j ≡ rowAt (rows n table) (suc number) ! j)
 
 abbrev μ-loop : tie.MeasureT-loop
-μ-loop table n number base i₀ i = ?
+μ-loop table n number base i₀ i = n - i
 
--- src/lib.rt:158:16
 mul-base : tie.Need-mul-base Inv-loop μ-loop
-mul-base c = ?
+mul-base c = omega (arith, two-rows-within (c .args .n) (c .args .table .now) (c .args .k .0) (c .pre))
 
--- src/lib.rt:160:5
 loop-holds : tie.Need-loop-holds Inv-loop μ-loop
-loop-holds c = ?
+loop-holds c =
+    let G = rows (c .args .n) (c .args .table .now) in
+    (omega arith, upto-zero (λ j. rowAt G (c .args .k .0) ! j ≡ rowAt G (suc (c .args .k .0)) ! j) refl)
 
--- src/lib.rt:161:23
 add-a : tie.Need-add-a Inv-loop μ-loop
-add-a c = ?
+add-a c =
+    let s = c .before .before in
+    omega (arith, two-rows-within (s .args .n) (s .args .table .now) (s .args .k .0) (s .pre))
 
--- src/lib.rt:161:17
 shared-slice-read-a : tie.Need-shared-slice-read-a Inv-loop μ-loop
-shared-slice-read-a c = ?
+shared-slice-read-a c =
+    let s = c .before .before .before in
+    omega (arith, two-rows-within (s .args .n) (s .args .table .now) (s .args .k .0) (s .pre))
 
--- src/lib.rt:162:23
 add-b : tie.Need-add-b Inv-loop μ-loop
-add-b c = ?
+add-b c =
+    let s = c .before .before .before in
+    omega (arith, two-rows-within (s .args .n) (s .args .table .now) (s .args .k .0) (s .pre))
 
--- src/lib.rt:162:23
 add-b-2 : tie.Need-add-b-2 Inv-loop μ-loop
-add-b-2 c = ?
+add-b-2 c =
+    let s = c .before .before .before in
+    omega (arith, two-rows-within (s .args .n) (s .args .table .now) (s .args .k .0) (s .pre))
 
--- src/lib.rt:162:17
 shared-slice-read-b : tie.Need-shared-slice-read-b Inv-loop μ-loop
-shared-slice-read-b c = ?
+shared-slice-read-b c =
+    let s = c .before .before .before .before in
+    omega (arith, two-rows-within (s .args .n) (s .args .table .now) (s .args .k .0) (s .pre))
 
--- src/lib.rt:164:13
 returns : tie.Need-returns Inv-loop μ-loop
-returns c = ?
+returns c =
+    let s = c .before .before .before .before .before in
+    let a = s .args in
+    let l = c .before .before .before .before .loop in
+    let u = rowAt (rows (a .n) (a .table .now)) (a .k .0) in
+    let v = rowAt (rows (a .n) (a .table .now)) (suc (a .k .0)) in
+    let x = entry-at (a .n) (a .table .now) (a .k .0) (l .i) (omega arith) (omega arith) in
+    let y = next-entry-at (a .n) (a .table .now) (a .k .0) (l .i) (s .pre) (omega arith) in
+    tests-true (tests-precedes u v) (differs-at u v (l .i) (l .inv .1) (omega arith))
 
--- src/lib.rt:167:13
 returns-2 : tie.Need-returns-2 Inv-loop μ-loop
-returns-2 c = ?
+returns-2 c =
+    let s = c .before .before .before .before .before .before in
+    let a = s .args in
+    let l = c .before .before .before .before .before .loop in
+    let u = rowAt (rows (a .n) (a .table .now)) (a .k .0) in
+    let v = rowAt (rows (a .n) (a .table .now)) (suc (a .k .0)) in
+    let x = entry-at (a .n) (a .table .now) (a .k .0) (l .i) (omega arith) (omega arith) in
+    let y = next-entry-at (a .n) (a .table .now) (a .k .0) (l .i) (s .pre) (omega arith) in
+    tests-false (tests-precedes u v) (not-before u v (l .i) (l .inv .1) (omega arith))
 
--- src/lib.rt:169:9
 add-i : tie.Need-add-i Inv-loop μ-loop
-add-i c = ?
+add-i c = omega arith
 
--- src/lib.rt:160:5
 loop-less : tie.Need-loop-less Inv-loop μ-loop
-loop-less c = ?
+loop-less c = omega arith
 
--- src/lib.rt:160:5
 loop-again : tie.Need-loop-again Inv-loop μ-loop
-loop-again c = ?
+loop-again c =
+    let s = c .before .before .before .before .before .before in
+    let a = s .args in
+    let l = c .before .before .before .before .before .loop in
+    let u = rowAt (rows (a .n) (a .table .now)) (a .k .0) in
+    let v = rowAt (rows (a .n) (a .table .now)) (suc (a .k .0)) in
+    let x = entry-at (a .n) (a .table .now) (a .k .0) (l .i) (omega arith) (omega arith) in
+    let y = next-entry-at (a .n) (a .table .now) (a .k .0) (l .i) (s .pre) (omega arith) in
+    let e : u ! suc (l .i) ≡ v ! suc (l .i) = omega arith in
+    (omega arith, upto-next (λ j. u ! j ≡ v ! j) (l .i) (l .inv .1) e)
 
--- src/lib.rt:153:1
 returns-3 : tie.Need-returns-3 Inv-loop μ-loop
-returns-3 c = ?
+returns-3 c =
+    let s = c .before .before in
+    let a = s .args in
+    let l = c .before .loop in
+    let u = rowAt (rows (a .n) (a .table .now)) (a .k .0) in
+    let v = rowAt (rows (a .n) (a .table .now)) (suc (a .k .0)) in
+    let same = never-differs u v (a .n) (row-size (a .n) (a .table .now) (a .k .0) (omega arith)) (row-size (a .n) (a .table .now) (suc (a .k .0)) (s .pre)) (λ j h. l .inv .1 j (omega arith)) in
+    tests-false (tests-precedes u v) (not-before-equal u v same)
 
 pub precedes-next-spec : {M : Type 1} → statement M
 precedes-next-spec =

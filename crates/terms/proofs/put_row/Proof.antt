@@ -1,63 +1,66 @@
+-- The first i exponents stand in row k's place, and all other bytes are as before.
 use borrow.Author.Needs.{needs}
 use native.Mathlib.Omega.{arith}
-use borrow.Author.Tests.{le-ltb, lt-ltb, le-leb, lt-leb, eq-eqb, ne-eqb, ltb-true, ltb-false, leb-true, leb-false, eqb-true, eqb-false}
-use mathlib.Core.Path.{_≡_, refl, sym, ap, _∙_}
-use mathlib.Core.Logic.{⊎-elim}
-use mathlib.Core.List.{List, [], _∷_, _++_}
-use mathlib.Core.Bool.{Bool, true, false}
-use Prim.Native.Nat.{ℕ, zero, suc, _+_, _*_, _-_, _/_, _%_, _≤_, _<_}
-use lib.ListN.{length, take, drop, getD, set, replicate}
+use mathlib.Core.Path.{_≡_, _∙_}
+use Prim.Native.Nat.{_*_, _-_, _≤_}
+use lib.ListN.{length}
 use denote.Ref.{now}
+use native.Mathlib.Numerals.{add-one}
+use lib.Seq.{paste, paste-zero, paste-suc, length-paste}
+use Rattle.terms.specs.Rows.{putRow}
 use Rattle.terms.proofs.put_row.Statement.{statement}
 use Rattle.terms.proofs.put_row.Tie as tie
-use Rattle.terms.proofs.put_row.Reads as reads
-use Rattle.terms.proofs.put_row.Lts as lts
 
 abbrev Inv-loop : tie.InvT-loop
-Inv-loop buffer₀ n number base exponents i₀ buffer i = ?
+Inv-loop buffer₀ n number base exponents i₀ buffer i = (i ≤ n) × (buffer ≡ paste buffer₀ base exponents i)
 
 abbrev μ-loop : tie.MeasureT-loop
-μ-loop buffer₀ n number base exponents i₀ buffer i = ?
+μ-loop buffer₀ n number base exponents i₀ buffer i = n - i
 
--- src/lib.rt:90:16
 mul-base : tie.Need-mul-base Inv-loop μ-loop
-mul-base c = ?
+mul-base c = omega arith
 
--- src/lib.rt:92:5
 loop-holds : tie.Need-loop-holds Inv-loop μ-loop
-loop-holds c = ?
+loop-holds c = (search needs, paste-zero (c .before .args .buffer .now) (c .before .args .k .0 * c .before .args .n) (c .before .args .r .exponents))
 
--- src/lib.rt:93:28
 array-read-buffer : tie.Need-array-read-buffer Inv-loop μ-loop
-array-read-buffer c = ?
+array-read-buffer c = omega arith
 
--- src/lib.rt:93:16
 add-buffer : tie.Need-add-buffer Inv-loop μ-loop
-add-buffer c = ?
+add-buffer c = omega arith
 
--- src/lib.rt:93:9
 slice-write-buffer : tie.Need-slice-write-buffer Inv-loop μ-loop
-slice-write-buffer c = ?
+slice-write-buffer c =
+    let a = c .before .before .before .args in
+    let l = c .before .loop in
+    let six : length (a .r .exponents) ≡ 6 = search needs in
+    rw (l .inv .1, length-paste (a .buffer .now) (a .k .0 * a .n) (a .r .exponents) (l .i) (omega arith) (omega arith)) (omega arith)
 
--- src/lib.rt:92:9
 add-i : tie.Need-add-i Inv-loop μ-loop
-add-i c = ?
+add-i c = omega arith
 
--- src/lib.rt:92:5
 loop-less : tie.Need-loop-less Inv-loop μ-loop
-loop-less c = ?
+loop-less c = omega arith
 
--- src/lib.rt:92:5
 loop-again : tie.Need-loop-again Inv-loop μ-loop
-loop-again c = ?
+loop-again c =
+    let a = c .before .before .before .args in
+    let l = c .before .loop in
+    let six : length (a .r .exponents) ≡ 6 = search needs in
+    (omega arith, rw (l .inv .1, add-one) (paste-suc (a .buffer .now) (a .k .0 * a .n) (a .r .exponents) (l .i) 0 (omega arith) (omega arith)))
 
--- src/lib.rt:85:1
 same-length : tie.Need-same-length Inv-loop μ-loop
-same-length c = ?
+same-length c =
+    let a = c .before .before .before .args in
+    let l = c .before .loop in
+    let six : length (a .r .exponents) ≡ 6 = search needs in
+    rw (l .inv .1, length-paste (a .buffer .now) (a .k .0 * a .n) (a .r .exponents) (l .i) (omega arith) (omega arith))
 
--- src/lib.rt:85:1
 returns : tie.Need-returns Inv-loop μ-loop
-returns c = ?
+unfolding putRow
+returns c =
+    let e : c .before .loop .i ≡ c .before .before .before .args .n = omega arith in
+    c .before .loop .inv .1 ∙ rw e
 
 pub put-row-spec : {M : Type 1} → statement M
 put-row-spec =

@@ -1,59 +1,66 @@
-use borrow.Author.Needs.{needs}
+-- The first i exponents are read, and zeros stand behind them.
 use native.Mathlib.Omega.{arith}
-use borrow.Author.Tests.{le-ltb, lt-ltb, le-leb, lt-leb, eq-eqb, ne-eqb, ltb-true, ltb-false, leb-true, leb-false, eqb-true, eqb-false}
-use mathlib.Core.Path.{_≡_, refl, sym, ap, _∙_}
-use mathlib.Core.Logic.{⊎-elim}
-use mathlib.Core.List.{List, [], _∷_, _++_}
-use mathlib.Core.Bool.{Bool, true, false}
-use Prim.Native.Nat.{ℕ, zero, suc, _+_, _*_, _-_, _/_, _%_, _≤_, _<_}
-use lib.ListN.{length, take, drop, getD, set, replicate}
+use mathlib.Core.Path.{_≡_, refl, ap, _∙_}
+use mathlib.Core.List.{List}
+use Prim.Native.Nat.{ℕ, _*_, _-_, _≤_}
 use denote.Ref.{now}
+use Rattle.terms.specs.declared.Row.{Row}
+use Rattle.terms.specs.Rows.{asRow}
+use Rattle.terms.proofs.RowsLaws.{row-within}
+use Rattle.terms.proofs.LoopLaws.{filled, filled-next, filled-row}
 use Rattle.terms.proofs.row_at.Statement.{statement}
 use Rattle.terms.proofs.row_at.Tie as tie
-use Rattle.terms.proofs.row_at.Reads as reads
-use Rattle.terms.proofs.row_at.Lts as lts
+
+abbrev made : ℕ → List ℕ → Row
+made n w = record { exponents = w; n = n }
 
 abbrev Inv-loop : tie.InvT-loop
-Inv-loop table n exponents₀ number base i₀ exponents i = ?
+Inv-loop table n exponents₀ number base i₀ exponents i = (i ≤ n) × (exponents ≡ filled table base i)
 
 abbrev μ-loop : tie.MeasureT-loop
-μ-loop table n exponents₀ number base i₀ exponents i = ?
+μ-loop table n exponents₀ number base i₀ exponents i = n - i
 
--- src/lib.rt:65:16
 mul-base : tie.Need-mul-base Inv-loop μ-loop
-mul-base c = ?
+mul-base c = omega (arith, row-within (c .args .n) (c .args .table .now) (c .args .k .0) (c .pre .1))
 
--- src/lib.rt:67:5
 loop-holds : tie.Need-loop-holds Inv-loop μ-loop
-loop-holds c = ?
+loop-holds c = (omega arith, refl)
 
--- src/lib.rt:68:30
 add-exponents : tie.Need-add-exponents Inv-loop μ-loop
-add-exponents c = ?
+add-exponents c =
+    let s = c .before .before in
+    omega (arith, row-within (s .args .n) (s .args .table .now) (s .args .k .0) (s .pre .1))
 
--- src/lib.rt:68:24
 shared-slice-read-exponents : tie.Need-shared-slice-read-exponents Inv-loop μ-loop
-shared-slice-read-exponents c = ?
+shared-slice-read-exponents c =
+    let s = c .before .before .before in
+    omega (arith, row-within (s .args .n) (s .args .table .now) (s .args .k .0) (s .pre .1))
 
--- src/lib.rt:68:9
 array-write-exponents : tie.Need-array-write-exponents Inv-loop μ-loop
-array-write-exponents c = ?
+array-write-exponents c = omega arith
 
--- src/lib.rt:69:9
 add-i : tie.Need-add-i Inv-loop μ-loop
-add-i c = ?
+add-i c = omega arith
 
--- src/lib.rt:67:5
 loop-less : tie.Need-loop-less Inv-loop μ-loop
-loop-less c = ?
+loop-less c = omega arith
 
--- src/lib.rt:67:5
 loop-again : tie.Need-loop-again Inv-loop μ-loop
-loop-again c = ?
+loop-again c =
+    let s = c .before .before .before in
+    let a = s .args in
+    let l = c .before .before .loop in
+    let w = row-within (a .n) (a .table .now) (a .k .0) (s .pre .1) in
+    (omega arith, rw (l .inv .1) (filled-next (a .table .now) (a .k .0 * a .n) (l .i) (omega arith) (omega arith)))
 
--- src/lib.rt:59:1
 returns : tie.Need-returns Inv-loop μ-loop
-returns c = ?
+unfolding asRow
+returns c =
+    let s = c .before .before in
+    let a = s .args in
+    let e : c .before .loop .i ≡ a .n = omega arith in
+    let x = c .before .loop .inv .1 ∙ ap (λ (i : ℕ). filled (a .table .now) (a .k .0 * a .n) i) e ∙ filled-row (a .n) (a .table .now) (a .k .0) (s .pre .1) in
+    ap (λ (w : List ℕ). made (a .n) w) x
 
 pub row-at-spec : {M : Type 1} → statement M
 row-at-spec =

@@ -123,12 +123,12 @@ pub fn compare(u: Row, v: Row) -> Order
 {
     let mut i = 0;
     while i < 6 {
-        let a = u.exponents[i];
-        let b = v.exponents[i];
-        if a < b {
+        let x = u.exponents[i];
+        let y = v.exponents[i];
+        if x < y {
             return Order::Less;
         }
-        if b < a {
+        if y < x {
             return Order::Greater;
         }
         i += 1;

@@ -1,1 +1,2 @@
+pub mod JanetLaws
 pub mod Examples

@@ -1,2 +1,3 @@
 pub mod JanetLaws
+pub mod Cover
 pub mod Examples

@@ -1,3 +1,5 @@
 pub mod JanetLaws
 pub mod Cover
+pub mod NumberLaws
+pub mod DescentLaws
 pub mod Examples

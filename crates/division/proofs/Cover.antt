@@ -3,19 +3,18 @@
 --   cover            in a complete table each monomial of the ideal has a Janet divisor
 --   outside-none     a monomial outside the ideal has no divisor, whatever the marks
 --   inside-divisor   a monomial with a divisor is in the ideal
-use mathlib.Core.Path.{_≡_, refl, sym, ap, _∙_, subst}
-use mathlib.Core.List.{List, [], _∷_}
-use mathlib.Core.Logic.{_⊎_, inl, inr, ⊎-elim, by-cases}
+use mathlib.Core.Path.{_≡_, sym, subst}
+use mathlib.Core.List.{[]}
+use mathlib.Core.Logic.{⊎-elim, by-cases}
 use Prim.Native.Nat.{ℕ, zero, suc, _+_, _≤_, _<_}
 use native.Mathlib.Nat.{not-suc-le-zero, le-antisymm}
 use native.Mathlib.Decide.{decLt}
 use native.Mathlib.Omega.{arith}
-use lib.ListN.{length}
 use Rattle.terms.specs.Monomials.{Monomial, Table, _!_, _∈_, rowAt, OfSize, SameBefore, times}
 use Rattle.terms.specs.Ideal.{Divides, Inside}
 use Rattle.terms.proofs.MonomialLaws.{within, below-suc, before-zero, before-suc, times-at, times-same, times-other}
 use Rattle.terms.proofs.RowsLaws.{member-at}
-use Rattle.division.specs.Cones.{Marking, Divisor, DivisorAt, Covers}
+use Rattle.division.specs.Cones.{Marking, DivisorAt, Covers}
 use Rattle.division.specs.Janet.{Multiplicative, JanetDivisor, Complete}
 use Rattle.division.proofs.JanetLaws.{multiplicative?, multiplicative-same, multiplicative-zero, largest, divisor-at}
 

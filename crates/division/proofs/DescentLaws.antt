@@ -10,7 +10,7 @@
 --   first-unique, answers-unique   there is one first divisor, or none; and where cones are disjoint one divisor, or none
 use mathlib.Core.Path.{_≡_, refl, sym, ap, _∙_, subst}
 use mathlib.Core.Bool.{Bool, true, false}
-use mathlib.Core.List.{List, [], _∷_, map, List·Memᴰ, List·Memᴰ·head, List·Memᴰ·tail, List·Memᴰ·cases-cons, List·Memᴰ·not-nil}
+use mathlib.Core.List.{List, [], _∷_, map, List·Memᴰ, List·Memᴰ·head, List·Memᴰ·not-nil}
 use mathlib.Core.Option.{Option, none, some}
 use mathlib.Core.Logic.{_⊎_, inl, inr, ⊎-elim, by-cases}
 use Prim.Native.Nat.{ℕ, zero, suc, _+_, _≤_, _<_}
@@ -18,16 +18,16 @@ use native.Mathlib.Nat.{not-suc-le-zero}
 use native.Mathlib.Decide.{decLt}
 use native.Mathlib.Omega.{arith}
 use lib.Dec.{T, leb, eqb}
-use lib.ListN.{length, getD, drop}
+use lib.ListN.{length, drop}
 use lib.Seq.{drop-cons, drop-length}
 use Rattle.terms.specs.Tests.{Tests, true-tests, false-tests, pick, keep, keep-in, keep-make, tests-le, tests-eq, tests-or, tests-all}
-use Rattle.terms.specs.Monomials.{Monomial, Table, _!_, _∈_, rowAt, OfSize, SameBefore, degree}
+use Rattle.terms.specs.Monomials.{Monomial, Table, _!_, rowAt, OfSize, SameBefore, degree}
 use Rattle.terms.proofs.MonomialLaws.{beyond, within, below-suc, before-suc, before-first}
 use Rattle.terms.proofs.RowsLaws.{member-at, member-index}
-use Rattle.division.specs.Cones.{Marking, Divisor, DivisorAt, Distinct, Disjoint}
+use Rattle.division.specs.Cones.{Marking, DivisorAt, Distinct, Disjoint}
 use Rattle.division.specs.Janet.{InGroup, Multiplicative, JanetDivisor, janetTest}
-use Rattle.division.specs.Scan.{Answers, FirstDivisor, AnswersFirst, scanFrom, scan}
-use Rattle.division.specs.Descent.{Descent, distinct, first, last, numbersFrom, exponents, stepped, goesOn, onward, descend, descent}
+use Rattle.division.specs.Scan.{Answers, AnswersFirst, scanFrom, scan}
+use Rattle.division.specs.Descent.{Descent, first, last, numbersFrom, exponents, stepped, goesOn, onward, descend, descent}
 use Rattle.division.proofs.JanetLaws.{tests-janet, largest, at-divisor, at-most-one, janet-disjoint}
 use Rattle.division.proofs.NumberLaws.{Rising, distinct-in, distinct-make, distinct-rising, keep-rising, LastIs, last-is, rising-length, map-in, map-make, numbers-in, numbers-make}
 

@@ -1,10 +1,9 @@
 -- Examples F and G of the paper, of the rules themselves.
 use mathlib.Core.Path.{_≡_, refl}
 use mathlib.Core.Bool.{false}
-use mathlib.Core.List.{List, [], _∷_}
+use mathlib.Core.List.{[], _∷_}
 use mathlib.Core.Option.{none, some}
-use Prim.Native.Nat.{ℕ}
-use Rattle.terms.specs.Monomials.{Monomial, Table}
+use Rattle.terms.specs.Monomials.{Table}
 use Rattle.division.specs.Janet.{tableMarks, completeTest}
 use Rattle.division.specs.Descent.{descent}
 

@@ -11,19 +11,16 @@
 --   unique                 Janet divisors of one monomial are equal
 --   janet-disjoint         in a table of distinct rows Janet's cones are disjoint
 --   ascending-distinct     the rows of an ascending table are distinct
-use mathlib.Core.Path.{_≡_, refl, sym, ap, _∙_, subst}
-use mathlib.Core.Bool.{Bool, true, false}
-use mathlib.Core.List.{List, [], _∷_, List·Memᴰ}
-use mathlib.Core.Logic.{_⊎_, inl, inr, ⊎-elim, by-cases}
+use mathlib.Core.Path.{_≡_, refl, sym, _∙_, subst}
+use mathlib.Core.List.{[]}
+use mathlib.Core.Logic.{by-cases}
 use Prim.Native.Nat.{ℕ, zero, suc, _≤_, _<_}
-use native.Mathlib.Nat.{not-suc-le-zero, le-of-suc-le-suc, le-antisymm}
+use native.Mathlib.Nat.{le-of-suc-le-suc, le-antisymm}
 use native.Mathlib.Decide.{decLe, decLt, ℕ-discrete}
 use native.Mathlib.Omega.{arith}
-use lib.Dec.{T, leb, eqb, ltb}
 use lib.ListN.{length}
 use Rattle.terms.specs.Tests.{Tests, decide, tests-as, tests-le, tests-lt, tests-eq, tests-and, tests-not, tests-implies, tests-each, tests-all, tests-any, keep-in, keep-make}
 use Rattle.terms.specs.Monomials.{Monomial, Table, _!_, _∈_, rowAt, OfSize, SameBefore, times}
-use Rattle.terms.specs.Ideal.{Divides}
 use Rattle.terms.specs.Order.{Precedes, Ascending}
 use Rattle.terms.proofs.MonomialLaws.{beyond, within, positive, before-zero, before-suc, same-all}
 use Rattle.terms.proofs.IdealLaws.{tests-divides}

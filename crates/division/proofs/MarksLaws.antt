@@ -15,20 +15,19 @@
 --   marks-successor, marks-last   the same of the bytes
 use mathlib.Core.Path.{_≡_, refl, sym, ap, _∙_, subst}
 use mathlib.Core.Bool.{Bool, true, false}
-use mathlib.Core.List.{List, [], _∷_, map}
+use mathlib.Core.List.{[], _∷_, map}
 use mathlib.Core.Logic.{_⊎_, inl, inr, ⊎-elim, by-cases}
 use Prim.Native.Nat.{ℕ, zero, suc, _+_, _*_, _-_, _/_, _%_, _^_, _≤_, _<_}
-use native.Mathlib.Nat.{not-suc-le-zero, eq-or-lt-of-le, le-of-suc-le-suc, pow-suc, two-pow-succ, mod-eq-of-lt, div-eq-of-lt, mul-add-mod-self-right, mul-assoc}
-use native.Mathlib.Decide.{decLe, decLt, ℕ-discrete}
+use native.Mathlib.Nat.{not-suc-le-zero, eq-or-lt-of-le, le-of-suc-le-suc, two-pow-succ, mod-eq-of-lt, div-eq-of-lt, mul-add-mod-self-right, mul-assoc}
+use native.Mathlib.Decide.{decLe, decLt}
 use native.Mathlib.Omega.{arith}
 use lib.Dec.{T, eqb}
-use lib.ListN.{length, getD, length-map, List·getD-map}
-use lib.Pow.{pow-add, pow-pos, pow-mono, field, high}
+use lib.ListN.{length, getD, length-map}
+use lib.Pow.{pow-add, pow-mono, field, high}
 use lib.Count.{ones, ones-cat}
-use Rattle.terms.specs.Tests.{Tests, pick, tests-as, tests-eq, tests-same, tests-true, tests-false}
-use Rattle.terms.specs.Monomials.{Monomial, Table, _!_, _∈_, rowAt, SameBefore}
+use Rattle.terms.specs.Tests.{Tests, pick, tests-as, tests-same, tests-true, tests-false}
+use Rattle.terms.specs.Monomials.{Monomial, Table, _!_, rowAt, SameBefore}
 use Rattle.terms.specs.Order.{Precedes, Ascending}
-use Rattle.terms.proofs.MonomialLaws.{positive, within}
 use Rattle.terms.proofs.OrderLaws.{precedes-irreflexive, precedes-trans, ascending-between}
 use Rattle.terms.proofs.RowsLaws.{member-at, member-index}
 use Rattle.division.specs.Janet.{InGroup, Multiplicative, multiplicativeTest, marksByte, marksCount, marksOf, tableMarks}

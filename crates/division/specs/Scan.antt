@@ -5,7 +5,7 @@
 --   AnswersFirst M G q o   o is the first row number that is a divisor of q, or none where there is none
 --   scan G q         the first row number of a Janet divisor of q in G
 use mathlib.Core.Option.{Option, none, some}
-use mathlib.Core.List.{List, [], _∷_}
+use mathlib.Core.List.{[], _∷_}
 use Prim.Native.Nat.{ℕ, suc, _<_}
 use Rattle.terms.specs.Tests.{pick}
 use Rattle.terms.specs.Monomials.{Monomial, Table}

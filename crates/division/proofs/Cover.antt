@@ -1,9 +1,10 @@
 -- Rule 4: the cones of a complete table cover its ideal, and only that.
 --
 --   cover            in a complete table each monomial of the ideal has a Janet divisor
+--   covers-complete  a table whose cones cover its ideal is complete, whatever the marks
 --   outside-none     a monomial outside the ideal has no divisor, whatever the marks
 --   inside-divisor   a monomial with a divisor is in the ideal
-use mathlib.Core.Path.{_≡_, sym, subst}
+use mathlib.Core.Path.{_≡_, sym, _∙_, subst}
 use mathlib.Core.List.{[]}
 use mathlib.Core.Logic.{⊎-elim, by-cases}
 use Prim.Native.Nat.{ℕ, zero, suc, _+_, _≤_, _<_}
@@ -12,11 +13,12 @@ use native.Mathlib.Decide.{decLt}
 use native.Mathlib.Omega.{arith}
 use Rattle.terms.specs.Monomials.{Monomial, Table, _!_, _∈_, rowAt, OfSize, SameBefore, times}
 use Rattle.terms.specs.Ideal.{Divides, Inside}
-use Rattle.terms.proofs.MonomialLaws.{within, below-suc, before-zero, before-suc, times-at, times-same, times-other}
+use Rattle.terms.proofs.MonomialLaws.{within, below-suc, before-zero, before-suc, times-at, times-same, times-other, times-above, length-times}
+use Rattle.terms.proofs.IdealLaws.{inside-up, inside-row}
 use Rattle.terms.proofs.RowsLaws.{member-at}
-use Rattle.division.specs.Cones.{Marking, DivisorAt, Covers}
+use Rattle.division.specs.Cones.{Marking, DivisorAt, Covers, CompleteBy}
 use Rattle.division.specs.Janet.{Multiplicative, JanetDivisor, Complete}
-use Rattle.division.proofs.JanetLaws.{multiplicative?, multiplicative-same, multiplicative-zero, largest, divisor-at}
+use Rattle.division.proofs.JanetLaws.{multiplicative?, multiplicative-same, multiplicative-zero, largest, divisor-at, at-divisor}
 
 -- ---- outside the ideal, over any marks
 
@@ -25,6 +27,14 @@ inside-divisor {G = G} {r = r} d = record { row = rowAt G r; member = member-at 
 
 pub outside-none : {M : Marking} {G : Table} {r : ℕ} {q : Monomial} → (Inside G q → ⊥) → DivisorAt M G r q → ⊥
 outside-none f d = f (inside-divisor d)
+
+-- ---- over any marks: a table that covers its ideal is complete
+
+-- a product of a row is in the ideal
+pub covers-complete : {M : Marking} {n : ℕ} {G : Table} → OfSize n G → Covers M n G → CompleteBy M n G
+covers-complete {M} {n} {G} z c u m i p l f =
+    let d = c (times u i 1) (length-times u i 1 ∙ z u m) (inside-up (inside-row m) (times-above u i 1)) in
+    (rowAt G (d .0), at-divisor (d .1))
 
 -- ---- a complete table covers its ideal
 

@@ -3,6 +3,8 @@
 --   descent-finds    what is found is a Janet divisor, and nothing is found where there is none
 --   descent-scan     on distinct rows it is what a scan of all rows finds
 --   descent-steps    the steps are at most the degree of q and the number of variables
+--   descent-ended    where a row is found the descent ended at no variable, and else at one of 1 to n
+--   covered-found    a monomial has a Janet divisor exactly where the descent finds a row
 --   stepped-in, stepped-make, stepped-rising   the exponents stepped on: those of the group that do not exceed q's, ascending
 --   scan-finds       a scan gives the first Janet divisor, in a table in any order
 --   scan-stops, scan-goes, scan-ends   the three cases of a scan at row r
@@ -20,15 +22,15 @@ use native.Mathlib.Omega.{arith}
 use lib.Dec.{T, leb, eqb}
 use lib.ListN.{length, drop}
 use lib.Seq.{drop-cons, drop-length}
-use Rattle.terms.specs.Tests.{Tests, true-tests, false-tests, pick, keep, keep-in, keep-make, tests-le, tests-eq, tests-or, tests-all}
+use Rattle.terms.specs.Tests.{Tests, tests-same, true-tests, false-tests, pick, keep, keep-in, keep-make, tests-le, tests-eq, tests-or, tests-all}
 use Rattle.terms.specs.Monomials.{Monomial, Table, _!_, rowAt, OfSize, SameBefore, degree}
 use Rattle.terms.proofs.MonomialLaws.{beyond, within, below-suc, before-suc, before-first}
 use Rattle.terms.proofs.RowsLaws.{member-at, member-index}
 use Rattle.division.specs.Cones.{Marking, DivisorAt, Distinct, Disjoint}
-use Rattle.division.specs.Janet.{InGroup, Multiplicative, JanetDivisor, janetTest}
-use Rattle.division.specs.Scan.{Answers, AnswersFirst, scanFrom, scan}
-use Rattle.division.specs.Descent.{Descent, first, last, numbersFrom, exponents, stepped, goesOn, onward, descend, descent}
-use Rattle.division.proofs.JanetLaws.{tests-janet, largest, at-divisor, at-most-one, janet-disjoint}
+use Rattle.division.specs.Janet.{InGroup, Multiplicative, JanetDivisor, janetTest, coveredTest}
+use Rattle.division.specs.Scan.{Answers, AnswersFirst, scanFrom, scan, foundTest}
+use Rattle.division.specs.Descent.{Descent, EndedAt, first, last, numbersFrom, exponents, stepped, goesOn, onward, descend, descent}
+use Rattle.division.proofs.JanetLaws.{tests-janet, tests-covered, largest, divisor-at, at-divisor, at-most-one, janet-disjoint}
 use Rattle.division.proofs.NumberLaws.{Rising, distinct-in, distinct-make, distinct-rising, keep-rising, LastIs, last-is, rising-length, map-in, map-make, numbers-in, numbers-make}
 
 -- ---- the exponents stepped on
@@ -291,3 +293,60 @@ answers-unique f q (some r) (some s) h k = ap some (at-most-one f h k)
 pub descent-scan : {n : ℕ} {G : Table} → OfSize n G → Distinct G → (q : Monomial) → length q ≡ n → descent n G q .found ≡ scan G q
 descent-scan {n} {G} z f q e =
     answers-unique (janet-disjoint z f) q (descent n G q .found) (scan G q) (descent-finds z q e) (answers-first Multiplicative G q (scan G q) (scan-finds G q))
+
+tests-answer : (G : Table) (q : Monomial) (o : Option ℕ) → Answers Multiplicative G q o → Tests (foundTest o) ((u : Monomial) × JanetDivisor G u q)
+tests-answer G q none h = record { sound = λ t. absurd t; complete = λ p. let d = divisor-at (p .1) in h (d .0) (d .1) }
+tests-answer G q (some r) h = record { sound = λ t. (rowAt G r, at-divisor h); complete = λ p. tt }
+
+pub covered-found : {n : ℕ} {G : Table} → OfSize n G → (q : Monomial) → length q ≡ n → coveredTest G q ≡ foundTest (descent n G q .found)
+covered-found {n} {G} z q e =
+    tests-same (coveredTest G q) (foundTest (descent n G q .found)) (tests-covered G q) (tests-answer G q (descent n G q .found) (descent-finds z q e))
+
+-- ---- the variable at which it ended
+
+ended-wider : (o : Option ℕ) (i j e : ℕ) → EndedAt o (suc i) j e → EndedAt o i j e
+ended-wider none i j e h = (omega (arith, h .0), h .1)
+ended-wider (some r) i j e h = h
+
+onward-ended : (G : Table) (q : Monomial) (i j : ℕ) (g : List ℕ) (o : Option ℕ) (next : List ℕ → Descent) → i < j → LastIs (stepped G q i g) o
+    → ((h : List ℕ) (r : ℕ) → List·Memᴰ r h → EndedAt (next h .found) (suc i) j (next h .ended)) → EndedAt (onward G q i g o next .found) i j (onward G q i g o next .ended)
+unfolding onward
+onward-ended G q i j g none next b l c = (omega arith, b)
+onward-ended G q i j g (some a) next b l c = go (goesOn G q i g a)
+  where
+    smaller : List ℕ
+    smaller = keep (λ r. eqb (rowAt G r ! i) a) g
+
+    result : Bool → Descent
+    result c = pick c
+        (record { found = next smaller .found; steps = length (stepped G q i g) + next smaller .steps; ended = next smaller .ended })
+        (record { found = none; steps = length (stepped G q i g); ended = i })
+
+    -- the last exponent stepped on is that of a row, which stays
+    deeper : EndedAt (next smaller .found) (suc i) j (next smaller .ended)
+    deeper =
+        let t = exponents-in G q i g a (stepped-in G q i g a (l .0) .0) in
+        c smaller (t .0) (keep-make (λ (r : ℕ). eqb (rowAt G r ! i) a) g (t .0) (t .1) (tests-eq (rowAt G (t .0) ! i) a .complete (sym (t .2))))
+
+    go : (c : Bool) → EndedAt (result c .found) i j (result c .ended)
+    go true = ended-wider (next smaller .found) i j (next smaller .ended) deeper
+    go false = (omega arith, b)
+
+descend-ended : (G : Table) (q : Monomial) (k i : ℕ) (g : List ℕ) (r : ℕ) → List·Memᴰ r g → EndedAt (descend G q k i g .found) i (i + k) (descend G q k i g .ended)
+unfolding descend first
+descend-ended G q zero i [] r m = absurd (List·Memᴰ·not-nil m)
+descend-ended G q zero i (s ∷ g) r m = refl
+descend-ended G q (suc k) i g r m =
+    let e : suc i + k ≡ i + suc k = omega arith in
+    onward-ended G q i (i + suc k) g (last (stepped G q i g)) (λ h. descend G q k (suc i) h) (omega arith) (stepped-last G q i g)
+    (λ h s t. subst (λ (j : ℕ). EndedAt (descend G q k (suc i) h .found) (suc i) j (descend G q k (suc i) h .ended)) e (descend-ended G q k (suc i) h s t))
+
+-- in a table with rows
+pub descent-ended : (n : ℕ) (G : Table) (q : Monomial) → 0 < length G → EndedAt (descent n G q .found) 1 (1 + n) (descent n G q .ended)
+unfolding descent
+descent-ended n G q p = descend-ended G q n 1 (numbersFrom 0 (length G)) 0 (numbers-make 0 (length G) 0 (omega arith) (omega arith))
+
+-- in a table without rows it ends at variable 1, with no step
+pub descent-empty : (n : ℕ) (q : Monomial) → descent (suc n) [] q ≡ record { found = none; steps = 0; ended = 1 }
+unfolding descent
+descent-empty n q = refl

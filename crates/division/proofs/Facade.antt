@@ -11,7 +11,7 @@
 pub use Rattle.division.specs.Cones.{Marking, Cone, Divisor, DivisorAt, Distinct, Disjoint, Covers, CompleteBy}
 pub use Rattle.division.specs.Janet.{InGroup, Multiplicative, JanetDivisor, Complete}
 unfoldable pub use Rattle.division.specs.Janet.{multiplicativeTest, marksByte, marksCount, marksOf, tableMarks, janetTest, coveredTest, completeTest}
-pub use Rattle.division.specs.Scan.{Answers, AnswersFirst, FirstDivisor}
+pub use Rattle.division.specs.Scan.{Answers, AnswersFirst, FirstDivisor, foundTest}
 unfoldable pub use Rattle.division.specs.Scan.{scan}
 pub use Rattle.division.specs.Descent.{Descent}
 unfoldable pub use Rattle.division.specs.Descent.{descent}
@@ -19,5 +19,5 @@ pub use Rattle.division.proofs.JanetLaws.{tests-multiplicative, tests-j
 pub use Rattle.division.proofs.JanetLaws.{divisor-at, at-divisor, at-most-one, unique, janet-disjoint, ascending-distinct}
 pub use Rattle.division.proofs.MarksLaws.{marks-cat, marks-below, marks-same, marks-mod, marks-bit, marks-past, marks-injective, marks-all, marks-ones, count-le, count-same}
 pub use Rattle.division.proofs.MarksLaws.{length-tableMarks, tableMarks-at, marksOf-below, tests-marks}
-pub use Rattle.division.proofs.Cover.{cover, inside-divisor, outside-none}
-pub use Rattle.division.proofs.DescentLaws.{descent-finds, descent-scan, descent-steps, scan-finds, answers-first, first-unique, answers-unique}
+pub use Rattle.division.proofs.Cover.{cover, covers-complete, inside-divisor, outside-none}
+pub use Rattle.division.proofs.DescentLaws.{descent-finds, descent-scan, descent-steps, descent-empty, covered-found, scan-finds, answers-first, first-unique, answers-unique}

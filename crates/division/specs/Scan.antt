@@ -4,6 +4,8 @@
 --   FirstDivisor M G q r   row number r is a divisor of q, and no earlier one is
 --   AnswersFirst M G q o   o is the first row number that is a divisor of q, or none where there is none
 --   scan G q         the first row number of a Janet divisor of q in G
+--   foundTest o      o is a row number, and not none
+use mathlib.Core.Bool.{Bool, true, false}
 use mathlib.Core.Option.{Option, none, some}
 use mathlib.Core.List.{[], _∷_}
 use Prim.Native.Nat.{ℕ, suc, _<_}
@@ -33,3 +35,7 @@ scanFrom G q r (u ∷ rows) = pick (janetTest G u q) (some r) (scanFrom G q (suc
 unfoldable pub scan : Table → Monomial → Option ℕ
 unfolding scanFrom
 scan G q = scanFrom G q 0 G
+
+abbrev pub foundTest : Option ℕ → Bool
+foundTest none = false
+foundTest (some r) = true

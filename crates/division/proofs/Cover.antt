@@ -72,7 +72,8 @@ module _ (n : ℕ) (G : Table) (z : OfSize n G) where
       before-suc j u v ih (le-antisymm (omega (arith, d .cone .divides j)) (largest d m (λ k l. sym (ih k l)) (omega arith)))
 
   -- Where i is not multiplicative for v, it is above v at i.
-  product-above : (u v q : Monomial) (i : ℕ) → v ∈ G → Divides v q → v ! i < q ! i → 0 < i → i ≤ n → (Multiplicative G v i → ⊥) → JanetDivisor G u (times v i 1) → Above G q v i u
+  product-above : (u v q : Monomial) (i : ℕ) → v ∈ G → Divides v q → v ! i < q ! i → 0 < i → i ≤ n
+      → (Multiplicative G v i → ⊥) → JanetDivisor G u (times v i 1) → Above G q v i u
   product-above u v q i m a h p l f d =
       let same : SameBefore i u v = product-same u v i m d i (omega arith) in
       let e : times v i 1 ! i ≡ v ! i + 1 = times-same v i 1 p (omega (arith, z v m)) in

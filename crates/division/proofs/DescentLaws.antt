@@ -31,7 +31,8 @@ use Rattle.division.specs.Janet.{InGroup, Multiplicative, JanetDivisor, 
 use Rattle.division.specs.Scan.{Answers, AnswersFirst, scanFrom, scan, foundTest}
 use Rattle.division.specs.Descent.{Descent, EndedAt, first, last, numbersFrom, exponents, stepped, goesOn, onward, descend, descent}
 use Rattle.division.proofs.JanetLaws.{tests-janet, tests-covered, largest, divisor-at, at-divisor, at-most-one, janet-disjoint}
-use Rattle.division.proofs.NumberLaws.{Rising, distinct-in, distinct-make, distinct-rising, keep-rising, LastIs, last-is, rising-length, map-in, map-make, numbers-in, numbers-make}
+use Rattle.division.proofs.NumberLaws.{Rising, LastIs, distinct-in, distinct-make, distinct-rising, keep-rising, last-is, rising-length}
+use Rattle.division.proofs.NumberLaws.{map-in, map-make, numbers-in, numbers-make}
 
 -- ---- the exponents stepped on
 
@@ -56,7 +57,8 @@ module _ (G : Table) (q : Monomial) (i : ℕ) (g : List ℕ) where
 
   pub stepped-make : (r : ℕ) → List·Memᴰ r g → rowAt G r ! i ≤ q ! i → List·Memᴰ (rowAt G r ! i) (stepped G q i g)
   unfolding stepped
-  stepped-make r m l = keep-make (λ (a : ℕ). leb a (q ! i)) (exponents G i g) (rowAt G r ! i) (exponents-make r m) (tests-le (rowAt G r ! i) (q ! i) .complete l)
+  stepped-make r m l =
+      keep-make (λ (a : ℕ). leb a (q ! i)) (exponents G i g) (rowAt G r ! i) (exponents-make r m) (tests-le (rowAt G r ! i) (q ! i) .complete l)
 
   pub stepped-rising : Rising (stepped G q i g)
   unfolding stepped
@@ -79,9 +81,9 @@ module _ (G : Table) (q : Monomial) (i : ℕ) (g : List ℕ) where
 
 -- ---- the descent finds the Janet divisor
 
--- At each variable the group is a group of G, before it each of its rows is as a Janet divisor of q is, and every Janet divisor is still in it. A Janet divisor has the
--- last exponent stepped on: no smaller one by `largest`, and no larger one since it divides q. So the group may shrink to that exponent; and where it is neither q's nor the
--- group's largest there is no divisor, for q would exceed it in a variable that is not multiplicative.
+-- At each variable the group is a group of G, before it each of its rows is as a Janet divisor of q is, and every Janet divisor is still in it.
+-- A Janet divisor has the last exponent stepped on: no smaller one by `largest`, and no larger one since it divides q. So the group may shrink to
+-- that exponent; and where it is neither q's nor the group's largest there is no divisor, for q would exceed it in a variable that is not multiplicative.
 
 module _ (G : Table) (q : Monomial) (z : OfSize (length q) G) where
   -- g is a group of G at variable i, its rows are as Janet divisors of q before i, and no Janet divisor was lost
@@ -104,11 +106,13 @@ module _ (G : Table) (q : Monomial) (z : OfSize (length q) G) where
       largest (at-divisor d) (member-at G [] (t .0) (h .from (t .0) (t .1))) (h .same (t .0) r (t .1) k) (omega (arith, s .1, t .2)) in
       omega (arith, t .2)
 
-  shrink : (i : ℕ) (g : List ℕ) (a : ℕ) → Group i g → LastIs (stepped G q i g) (some a) → T (goesOn G q i g a) → Group (suc i) (keep (λ r. eqb (rowAt G r ! i) a) g)
+  shrink : (i : ℕ) (g : List ℕ) (a : ℕ) → Group i g → LastIs (stepped G q i g) (some a) → T (goesOn G q i g a)
+      → Group (suc i) (keep (λ r. eqb (rowAt G r ! i) a) g)
   shrink i g a h l t = record {
     from = λ r m. h .from r (old r m);
     same = λ r s m k. before-suc i (rowAt G r) (rowAt G s) (h .same r s (old r m) (old s k)) (at r m ∙ sym (at s k));
-    full = λ r s m k e. keep-make f g s (h .full r s (old r m) k (λ j b. e j (omega arith))) (tests-eq (rowAt G s ! i) a .complete (e i (omega arith) ∙ at r m));
+    full = λ r s m k e. keep-make f g s (h .full r s (old r m) k (λ j b. e j (omega arith)))
+        (tests-eq (rowAt G s ! i) a .complete (e i (omega arith) ∙ at r m));
     under = λ r m. below-suc (λ j. rowAt G r ! j ≤ q ! j) i (h .under r (old r m)) (omega (arith, at r m, stepped-in G q i g a (l .0) .1));
     only = λ r m. below-suc (λ j. rowAt G r ! j < q ! j → Multiplicative G (rowAt G r) j) i (h .only r (old r m)) (λ b v k. marked r m b v k);
     kept = λ r d. keep-make f g r (h .kept r d) (tests-eq (rowAt G r ! i) a .complete (divisor-last i g a h l r d));
@@ -195,7 +199,8 @@ unfoldable span : ℕ → ℕ → Monomial → ℕ
 span zero i q = 0
 span (suc k) i q = suc (q ! i) + span k (suc i) q
 
-onward-steps : (G : Table) (q : Monomial) (i : ℕ) (g : List ℕ) (o : Option ℕ) (next : List ℕ → Descent) (b : ℕ) → ((h : List ℕ) → next h .steps ≤ b) → onward G q i g o next .steps ≤ suc (q ! i) + b
+onward-steps : (G : Table) (q : Monomial) (i : ℕ) (g : List ℕ) (o : Option ℕ) (next : List ℕ → Descent) (b : ℕ)
+    → ((h : List ℕ) → next h .steps ≤ b) → onward G q i g o next .steps ≤ suc (q ! i) + b
 unfolding onward
 onward-steps G q i g none next b h = omega arith
 onward-steps G q i g (some a) next b h = go (goesOn G q i g a)
@@ -238,7 +243,8 @@ pub scan-stops : (G : Table) (q : Monomial) (r : ℕ) → r < length G → janet
 unfolding scanFrom
 scan-stops G q r l e = rw (drop-cons G r [] l, e)
 
-pub scan-goes : (G : Table) (q : Monomial) (r : ℕ) → r < length G → janetTest G (rowAt G r) q ≡ false → scanFrom G q r (drop r G) ≡ scanFrom G q (suc r) (drop (suc r) G)
+pub scan-goes : (G : Table) (q : Monomial) (r : ℕ) → r < length G → janetTest G (rowAt G r) q ≡ false
+    → scanFrom G q r (drop r G) ≡ scanFrom G q (suc r) (drop (suc r) G)
 unfolding scanFrom
 scan-goes G q r l e = rw (drop-cons G r [] l, e)
 
@@ -247,7 +253,8 @@ unfolding scanFrom
 scan-ends G q = rw (drop-length G)
 
 -- with k rows left, none before them being a divisor
-scan-rest : (G : Table) (q : Monomial) (k r : ℕ) → r + k ≡ length G → ((s : ℕ) → s < r → DivisorAt Multiplicative G s q → ⊥) → AnswersFirst Multiplicative G q (scanFrom G q r (drop r G))
+scan-rest : (G : Table) (q : Monomial) (k r : ℕ) → r + k ≡ length G → ((s : ℕ) → s < r → DivisorAt Multiplicative G s q → ⊥)
+    → AnswersFirst Multiplicative G q (scanFrom G q r (drop r G))
 scan-rest G q zero r e f =
     let p : r ≡ length G = omega arith in
     rw (p, scan-ends G q) (λ s d. f s (omega (arith, d .within)) d)
@@ -309,7 +316,8 @@ ended-wider none i j e h = (omega (arith, h .0), h .1)
 ended-wider (some r) i j e h = h
 
 onward-ended : (G : Table) (q : Monomial) (i j : ℕ) (g : List ℕ) (o : Option ℕ) (next : List ℕ → Descent) → i < j → LastIs (stepped G q i g) o
-    → ((h : List ℕ) (r : ℕ) → List·Memᴰ r h → EndedAt (next h .found) (suc i) j (next h .ended)) → EndedAt (onward G q i g o next .found) i j (onward G q i g o next .ended)
+    → ((h : List ℕ) (r : ℕ) → List·Memᴰ r h → EndedAt (next h .found) (suc i) j (next h .ended))
+    → EndedAt (onward G q i g o next .found) i j (onward G q i g o next .ended)
 unfolding onward
 onward-ended G q i j g none next b l c = (omega arith, b)
 onward-ended G q i j g (some a) next b l c = go (goesOn G q i g a)
@@ -332,7 +340,8 @@ onward-ended G q i j g (some a) next b l c = go (goesOn G q i g a)
     go true = ended-wider (next smaller .found) i j (next smaller .ended) deeper
     go false = (omega arith, b)
 
-descend-ended : (G : Table) (q : Monomial) (k i : ℕ) (g : List ℕ) (r : ℕ) → List·Memᴰ r g → EndedAt (descend G q k i g .found) i (i + k) (descend G q k i g .ended)
+descend-ended : (G : Table) (q : Monomial) (k i : ℕ) (g : List ℕ) (r : ℕ) → List·Memᴰ r g
+    → EndedAt (descend G q k i g .found) i (i + k) (descend G q k i g .ended)
 unfolding descend first
 descend-ended G q zero i [] r m = absurd (List·Memᴰ·not-nil m)
 descend-ended G q zero i (s ∷ g) r m = refl

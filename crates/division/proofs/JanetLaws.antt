@@ -19,7 +19,8 @@ use native.Mathlib.Nat.{le-of-suc-le-suc, le-antisymm}
 use native.Mathlib.Decide.{decLe, decLt, ℕ-discrete}
 use native.Mathlib.Omega.{arith}
 use lib.ListN.{length}
-use Rattle.terms.specs.Tests.{Tests, decide, tests-as, tests-le, tests-lt, tests-eq, tests-and, tests-not, tests-implies, tests-each, tests-all, tests-any, keep-in, keep-make}
+use Rattle.terms.specs.Tests.{Tests, decide, tests-as, tests-le, tests-lt, tests-eq, tests-and, tests-not, tests-implies, tests-each}
+use Rattle.terms.specs.Tests.{tests-all, tests-any, keep-in, keep-make}
 use Rattle.terms.specs.Monomials.{Monomial, Table, _!_, _∈_, rowAt, OfSize, SameBefore, times}
 use Rattle.terms.specs.Order.{Precedes, Ascending}
 use Rattle.terms.proofs.MonomialLaws.{beyond, within, positive, before-zero, before-suc, same-all}
@@ -27,7 +28,8 @@ use Rattle.terms.proofs.IdealLaws.{tests-divides}
 use Rattle.terms.proofs.OrderLaws.{precedes-irreflexive, ascending-between}
 use Rattle.terms.proofs.RowsLaws.{member-at, member-index}
 use Rattle.division.specs.Cones.{Marking, Cone, Divisor, DivisorAt, Distinct, Disjoint}
-use Rattle.division.specs.Janet.{InGroup, group, Multiplicative, JanetDivisor, Complete, sameBeforeTest, multiplicativeTest, janetTest, coveredTest, completeTest}
+use Rattle.division.specs.Janet.{InGroup, group, Multiplicative, JanetDivisor, Complete}
+use Rattle.division.specs.Janet.{sameBeforeTest, multiplicativeTest, janetTest, coveredTest, completeTest}
 
 -- ---- the tests
 

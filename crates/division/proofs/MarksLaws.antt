@@ -127,7 +127,8 @@ marks-injective n f g e i l =
     bit-same (f (suc i)) (g (suc i)) (sym (marks-bit f n i l) ∙ ap (λ (x : ℕ). x / 2 ^ i % 2) e ∙ marks-bit g n i l)
 
 -- every mark behind variable suc j, and none there
-pub marks-behind : (n j : ℕ) (f : ℕ → Bool) → j < n → f (suc j) ≡ false → ((i : ℕ) → suc j < i → i ≤ n → f i ≡ true) → marksByte n f + 2 ^ suc j ≡ marksByte j f + 2 ^ n
+pub marks-behind : (n j : ℕ) (f : ℕ → Bool) → j < n → f (suc j) ≡ false → ((i : ℕ) → suc j < i → i ≤ n → f i ≡ true)
+    → marksByte n f + 2 ^ suc j ≡ marksByte j f + 2 ^ n
 unfolding marksByte
 marks-behind zero j f l e h = absurd (not-suc-le-zero l)
 marks-behind (suc n) j f l e h = ⊎-elim
@@ -178,9 +179,9 @@ tests-marks n G u i l =
 
 -- ---- an ascending table: the marks of a row by the next row
 
--- A row v of u's group at i that is above u there comes after u. So the last row has all marks. Where u has a next row w and they differ first at k: behind k the
--- row v equals u at k, so it comes before w, but no row stands between u and w. At k the next row is in u's group and above it. Before k the groups of u and w
--- are the same, and so are their exponents.
+-- A row v of u's group at i that is above u there comes after u. So the last row has all marks. Where u has a next row w and they differ first at k:
+-- behind k the row v equals u at k, so it comes before w, but no row stands between u and w. At k the next row is in u's group and above it.
+-- Before k the groups of u and w are the same, and so are their exponents.
 
 module _ (G : Table) (a : Ascending G) (r : ℕ) where
   -- rows above r's in its group at i come after it

@@ -29,7 +29,8 @@ Rising (a ∷ l) = ((b : ℕ) → List·Memᴰ b l → a < b) × Rising l
 
 module _ (a : ℕ) where
   -- the three places of a number before a list that begins with b
-  insert-cases : (b : ℕ) (l : List ℕ) (P : List ℕ → Type 0) → (a < b → P (a ∷ (b ∷ l))) → (a ≡ b → P (b ∷ l)) → (b < a → P (b ∷ insert a l)) → P (insert a (b ∷ l))
+  insert-cases : (b : ℕ) (l : List ℕ) (P : List ℕ → Type 0)
+      → (a < b → P (a ∷ (b ∷ l))) → (a ≡ b → P (b ∷ l)) → (b < a → P (b ∷ insert a l)) → P (insert a (b ∷ l))
   unfolding insert
   insert-cases b l P f g h = go (ltb a b) (eqb a b) (tests-lt a b) (tests-eq a b)
     where

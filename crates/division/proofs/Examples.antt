@@ -1,12 +1,42 @@
--- Examples F and G of the paper, of the rules themselves.
+-- Examples A, B, D, F and G of the paper, of the rules themselves.
+--
+--   example-A-find   no rows: find gives none in 0 steps
+--   example-B-marks  row 0 0 has the marks 3
+--   example-D-marks, -complete   the completed rows 02, 12, 21 have the marks 2, 2, 3, and are complete
+--   example-F-marks, -open       the rows of document 002's example have the marks 4, 4, 6, 6, 7, and are not complete
+--   example-G-found, -none       find of 1 2 5 gives row 3 in 4 steps; of 2 0 1, none in 2 steps
 use mathlib.Core.Path.{_≡_, refl}
-use mathlib.Core.Bool.{false}
-use mathlib.Core.List.{List, [], _∷_}
+use mathlib.Core.Bool.{true, false}
+use mathlib.Core.List.{[], _∷_}
 use mathlib.Core.Option.{none, some}
-use Prim.Native.Nat.{ℕ}
+use Rattle.terms.specs.Tests.{true-tests, false-tests}
 use Rattle.terms.specs.Monomials.{Monomial, Table}
-use Rattle.division.specs.Janet.{tableMarks, completeTest}
+use Rattle.division.specs.Janet.{Complete, tableMarks, completeTest}
 use Rattle.division.specs.Descent.{descent}
+use Rattle.division.proofs.JanetLaws.{tests-complete}
+
+-- whatever the monomial, it ends with nothing at variable 1
+pub example-A-find : (q : Monomial) → descent 2 [] q ≡ record { found = none; steps = 0; ended = 1 }
+unfolding descent
+example-A-find q = refl
+
+pub example-B-marks : tableMarks 2 ((0 ∷ 0 ∷ []) ∷ []) ≡ 3 ∷ []
+unfolding tableMarks
+example-B-marks = refl
+
+abbrev pub tableD : Table
+tableD = (0 ∷ 2 ∷ []) ∷ (1 ∷ 2 ∷ []) ∷ (2 ∷ 1 ∷ []) ∷ []
+
+pub example-D-marks : tableMarks 2 tableD ≡ 2 ∷ 2 ∷ 3 ∷ []
+unfolding tableMarks
+example-D-marks = refl
+
+test-D : completeTest 2 tableD ≡ true
+unfolding completeTest
+test-D = refl
+
+pub example-D-complete : Complete 2 tableD
+example-D-complete = true-tests (tests-complete 2 tableD) test-D
 
 -- document 002, example 5.2
 abbrev pub tableF : Table
@@ -16,15 +46,18 @@ pub example-F-marks : tableMarks 3 tableF ≡ 4 ∷ 4 ∷ 6 ∷ 6 ∷ 7 ∷ []
 unfolding tableMarks
 example-F-marks = refl
 
-pub example-F-open : completeTest 3 tableF ≡ false
+test-F : completeTest 3 tableF ≡ false
 unfolding completeTest
-example-F-open = refl
+test-F = refl
 
--- find of 1 2 5 gives row 3 in 4 steps; of 2 0 1, none in 2 steps, ended at variable 1
+pub example-F-open : Complete 3 tableF → ⊥
+example-F-open = false-tests (tests-complete 3 tableF) test-F
+
 pub example-G-found : descent 3 tableF (1 ∷ 2 ∷ 5 ∷ []) ≡ record { found = some 3; steps = 4; ended = 0 }
 unfolding descent
 example-G-found = refl
 
+-- it ends at variable 1
 pub example-G-none : descent 3 tableF (2 ∷ 0 ∷ 1 ∷ []) ≡ record { found = none; steps = 2; ended = 1 }
 unfolding descent
 example-G-none = refl

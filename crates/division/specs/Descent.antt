@@ -7,12 +7,14 @@
 --   stepped G q i g  those that do not exceed q's: the exponents stepped on
 --   descend          the descent from a variable on, in a group
 --   descent n G q    rule 6: variable by variable, from all rows
+--   EndedAt o i j e  beside what was found, o: the variable e at which it ended is 0 where o is a row, and else one from i on and below j
 --
 -- A group is the list of its row numbers.
+use mathlib.Core.Path.{_≡_}
 use mathlib.Core.Bool.{Bool, true, false, _||_}
 use mathlib.Core.List.{List, [], _∷_, map}
 use mathlib.Core.Option.{Option, none, some}
-use Prim.Native.Nat.{ℕ, zero, suc, _+_}
+use Prim.Native.Nat.{ℕ, zero, suc, _+_, _≤_, _<_}
 use lib.Dec.{leb, ltb, eqb}
 use lib.ListN.{length}
 use Rattle.terms.specs.Tests.{pick, all, keep}
@@ -79,3 +81,8 @@ descend G q (suc k) i g = onward G q i g (last (stepped G q i g)) (λ h. descend
 unfoldable pub descent : ℕ → Table → Monomial → Descent
 unfolding descend numbersFrom
 descent n G q = descend G q n 1 (numbersFrom 0 (length G))
+
+-- what `ended` is beside what was found, where the descent went through the variables from i on and below j
+abbrev pub EndedAt : Option ℕ → ℕ → ℕ → ℕ → Type 0
+EndedAt none i j e = (i ≤ e) × (e < j)
+EndedAt (some r) i j e = e ≡ 0

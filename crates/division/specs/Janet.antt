@@ -4,6 +4,7 @@
 --   group G u i      that group as a list
 --   Multiplicative   rule 2: Janet's marks
 --   marksByte n f    the byte in which variable i, of 1 to n, has the value 2 ^ (i − 1) where f holds of it
+--   marksCount n f   how many of the variables 1 to n have a mark, f holding of those
 --   marksOf n G u    rule 2: the marks of row u as a byte
 --   tableMarks n G   the marks of each row, in the order of the rows
 --   JanetDivisor     rule 3: u is a Janet divisor of q in G
@@ -46,6 +47,10 @@ multiplicativeTest G u i = all (λ v. leb (v ! i) (u ! i)) (group G u i)
 unfoldable pub marksByte : ℕ → (ℕ → Bool) → ℕ
 marksByte zero f = 0
 marksByte (suc n) f = marksByte n f + pick (f (suc n)) (2 ^ n) 0
+
+unfoldable pub marksCount : ℕ → (ℕ → Bool) → ℕ
+marksCount zero f = 0
+marksCount (suc n) f = marksCount n f + pick (f (suc n)) 1 0
 
 unfoldable pub marksOf : ℕ → Table → Monomial → ℕ
 unfolding marksByte multiplicativeTest

@@ -1,0 +1,124 @@
+"""The gate. Each step fails for a reason of its own; the last line is 'N passed, 0 failed' and nothing follows it.
+
+N is the number of `rt ci`, the edits that the compiler must refuse, and each comparison that was made.
+"""
+import os
+import re
+import subprocess
+import sys
+
+ROOT = os.path.dirname(os.path.dirname(os.path.abspath(__file__)))
+CLOSING = re.compile(r'(\d+) passed, 0 failed')
+
+
+class Fault(Exception):
+    """What the gate found wrong, in a line."""
+
+
+def read(path):
+    with open(os.path.join(ROOT, path), encoding='utf-8') as file:
+        return file.read()
+
+
+def rattle_files():
+    """Each source file of Rattle below crates/."""
+    for folder, _, names in sorted(os.walk(os.path.join(ROOT, 'crates'))):
+        for name in sorted(names):
+            if name.endswith('.rt'):
+                yield os.path.relpath(os.path.join(folder, name), ROOT)
+
+
+def functions(path):
+    """The functions of a source file: (name, whether it is public, the text between its name and its body)."""
+    head = re.compile(r'^[ \t]*(pub )?(?:extern "C" )?fn (\w+)(.*?)^[ \t]*\{|^[ \t]*(pub )?(?:extern "C" )?fn (\w+)([^\n]*)\{', re.S | re.M)
+    for found in head.finditer(re.sub(r'//[^\n]*', '', read(path))):
+        one_line = found.group(5) is not None
+        yield (found.group(5), found.group(4), found.group(6)) if one_line else (found.group(2), found.group(1), found.group(3))
+
+
+def listed_crates():
+    """Each crate under crates/ is listed, and each listed crate is there."""
+    lines = [line.split('#')[0].strip() for line in read('crates.txt').splitlines()]
+    listed = {line.split(':')[0].strip() for line in lines if line}
+    present = {name for name in os.listdir(os.path.join(ROOT, 'crates')) if os.path.isdir(os.path.join(ROOT, 'crates', name))}
+    if listed != present:
+        raise Fault(f'crates.txt and crates/ differ: {sorted(listed ^ present)}')
+
+
+def contracts():
+    """Each public function says what it ensures."""
+    for path in rattle_files():
+        for name, public, clauses in functions(path):
+            if public and 'ensures' not in clauses:
+                raise Fault(f'{path}: pub fn {name} has no ensures')
+
+
+def public_operations():
+    """The operations that docs/PROMISES.md lists as public: lines `| name | file |` with both in backquotes."""
+    return re.findall(r'^\| `(\w+)` \| `(crates/[\w/.]+\.rt)` \|', read('docs/PROMISES.md'), re.M)
+
+
+def unconditional():
+    """A public operation presumes nothing of its caller."""
+    for name, path in public_operations():
+        found = {function: clauses for function, _, clauses in functions(path)}
+        if name not in found:
+            raise Fault(f'docs/PROMISES.md lists {name} of {path}, which is not there')
+        if 'requires' in found[name]:
+            raise Fault(f'{path}: the public operation {name} has a requires')
+
+
+def layers():
+    """Counting sees of division's theory nothing but the facade."""
+    if not os.path.isdir(os.path.join(ROOT, 'crates/counting')):
+        return
+    for folder, _, names in os.walk(os.path.join(ROOT, 'crates/counting')):
+        for name in names:
+            if not name.endswith(('.rt', '.antt')):
+                continue
+            path = os.path.relpath(os.path.join(folder, name), ROOT)
+            for module in re.findall(r'Rattle\.division\.([\w.·-]+)', read(path)):
+                if not re.match(r'proofs\.(Facade\b|[\w.]*\.Reads$|\w+\.Reads$)', module):
+                    raise Fault(f'{path} imports {module} of division past its facade')
+
+
+def layout():
+    if subprocess.run(['rt', 'fmt', '--check'], cwd=ROOT, capture_output=True).returncode:
+        raise Fault('rt fmt --check: some file is not in the layout')
+
+
+def closing_number(command, environment=None, folder=ROOT):
+    """Runs a command that ends in 'N passed, 0 failed', passes its lines on, and gives N."""
+    run = subprocess.Popen(command, cwd=folder, env=environment, stdout=subprocess.PIPE, stderr=subprocess.STDOUT, text=True)
+    last = ''
+    for line in run.stdout:
+        last = line.rstrip('\n') or last
+        if not CLOSING.fullmatch(last):
+            print(line, end='', flush=True)
+    if run.wait():
+        raise Fault(f'{" ".join(command)} ended with status {run.returncode}')
+    closing = CLOSING.fullmatch(last)
+    if not closing or int(closing.group(1)) == 0:
+        raise Fault(f'{" ".join(command)} closed with {last!r}')
+    return int(closing.group(1))
+
+
+def main():
+    passed = 0
+    try:
+        for step in (listed_crates, contracts, unconditional, layers, layout):
+            step()
+            print(f'gate: {step.__name__}: holds', flush=True)
+        passed += closing_number([sys.executable, 'tests/counters.py'])
+        passed += closing_number(['rt', 'ci'])
+        if os.path.isdir(os.path.join(ROOT, 'rust')):
+            passed += closing_number(['bash', 'tests/comparisons'])
+    except Fault as fault:
+        print(f'gate: {fault}')
+        print(f'{passed} passed, 1 failed')
+        sys.exit(1)
+    print(f'{passed} passed, 0 failed')
+
+
+if __name__ == '__main__':
+    main()

@@ -17,17 +17,18 @@ use mathlib.Core.Logic.{_⊎_, inl, inr, ⊎-elim, by-cases}
 use Prim.Native.Nat.{ℕ, zero, suc, _+_, _-_, _≤_, _<_}
 use native.Mathlib.Nat.{not-suc-le-zero, le-of-suc-le-suc, eq-or-lt-of-le}
 use native.Mathlib.Decide.{decLe, decLt, ℕ-discrete}
+use native.Mathlib.Numerals.{add-one}
 use native.Mathlib.Omega.{arith}
 use borrow.Author.Tests.{le-ltb, lt-ltb, le-leb, lt-leb, eq-eqb, ne-eqb}
 use lib.Dec.{T, leb, ltb, eqb}
-use lib.ListN.{length}
+use lib.ListN.{length, getD}
 use Rattle.terms.specs.Tests.{Tests, pick, all, keep, keep-in, keep-make, tests-le, tests-eq, tests-or, tests-all, tests-true, tests-false}
 use Rattle.terms.specs.Monomials.{Monomial, Table, _!_, rowAt, SameBefore}
 use Rattle.terms.specs.Order.{Precedes, Ascending}
 use Rattle.terms.proofs.MonomialLaws.{before-suc, before-first}
 use Rattle.terms.proofs.OrderLaws.{ascending-between}
 use Rattle.division.specs.Descent.{Descent, insert, distinct, first, last, numbersFrom, exponents, stepped, goesOn, onward, descend, descent}
-use Rattle.division.specs.Ranges.{range, GroupRange, FirstLarger, after}
+use Rattle.division.specs.Ranges.{range, GroupRange, FirstLarger, Between, Reached, after, descendFrom}
 
 -- ---- the distinct numbers of a list
 
@@ -363,3 +364,79 @@ module _ (G : Table) (ascends : Ascending G) (i lo hi : ℕ) (R : GroupRange G i
           ∙ descend-down G q i lo (range (suc lo) mid) (range mid hi) (rowAt G lo ! i) (share-in mid F) (exceed-in mid F) under (beyond-in h) k
           (by-cases (decLt mid hi) (λ l. inl (omega (arith, g l))) (λ f. let e : mid ≡ hi = omega (arith, F .within) in inr (ap (λ (m : ℕ). range mid m) (sym e) ∙ range-empty mid)))
           ∙ ap (λ (l : List ℕ). after 1 (descend G q k (suc i) l)) (sym (range-cons lo mid (F .later)))
+
+-- ---- what the code does, in these words
+
+-- two neighbouring rows within a bracket of the range: the second is the first later row with a larger exponent
+pub larger-found : (G : Table) (i lo hi low high r : ℕ) → Ascending G → GroupRange G i lo hi → Between G i (rowAt G lo ! i) lo hi low high → Between G i (rowAt G lo ! i) low high (r - 1) r → FirstLarger G i lo hi r
+larger-found G i lo hi low high r ascends R a b = record {
+  later = omega (arith, a .from, b .from, b .apart);
+  within = omega (arith, a .within, b .within);
+  none = λ s l h. omega (arith, b .not-above, ascends-at G ascends i lo hi R s (r - 1) (omega arith) (omega arith) (omega (arith, b .apart, b .within, a .within)));
+  larger = λ l. by-cases (decLt r high)
+      (b .above)
+      (λ g. let e : high ≡ r = omega (arith, b .within) in subst (λ (k : ℕ). rowAt G lo ! i < rowAt G k ! i) e (a .above (omega arith)));
+}
+
+-- the byte of variable i stands one place before it
+pub read-at : (q : Monomial) (i : ℕ) → 0 < i → getD q (i - 1) 0 ≡ q ! i
+read-at q zero p = absurd (not-suc-le-zero p)
+read-at q (suc i) p = let e : suc i - 1 ≡ i = omega arith in rw e
+
+-- one more step before a descent
+after-one : (s : ℕ) (d e : Descent) → d ≡ after 1 e → after (s + 1) e ≡ after s d
+after-one s d e p =
+    let z : s + 1 + e .steps ≡ s + (1 + e .steps) = omega arith in
+    rw (p, z)
+
+module _ (n : ℕ) (G : Table) (q : Monomial) (i lo hi steps : ℕ) (R : Reached n G q i lo hi steps) where
+  -- behind the last variable the row that is left is found
+  pub reached-end : n < i → i ≤ suc n → record { found = some lo; steps = steps; ended = 0 } ≡ after steps (descendFrom n G q i lo hi)
+  unfolding descend first
+  reached-end l h =
+      let e : suc n - i ≡ 0 = omega arith in
+      let z : steps + 0 ≡ steps = omega arith in
+      rw (e, range-cons lo hi (R .group .some), z)
+
+  module _ (within : i ≤ n) where
+    left-here : suc n - i ≡ suc (n - i)
+    left-here = omega arith
+
+    pub reached-none : q ! i < rowAt G lo ! i → record { found = none; steps = steps; ended = i } ≡ after steps (descendFrom n G q i lo hi)
+    reached-none l =
+        let z : steps + 0 ≡ steps = omega arith in
+        rw (left-here, range-none G (R .ascends) i lo hi (R .group) q (n - i) l, z)
+
+    module _ (mid : ℕ) (F : FirstLarger G i lo hi mid) where
+      pub reached-above : mid < hi → Reached n G q i mid hi (steps + 1)
+      reached-above l = record {
+        ascends = R .ascends;
+        limited = R .limited;
+        group = range-above G (R .ascends) i lo hi (R .group) mid F l;
+        sized = R .sized;
+        variable = R .variable;
+        left = omega (arith, R .left, F .later, F .within);
+      }
+
+      pub reached-shared : Reached n G q (i + 1) lo mid (steps + 1)
+      reached-shared = record {
+        ascends = R .ascends;
+        limited = R .limited;
+        group = rw (add-one i) (range-shared G (R .ascends) i lo hi (R .group) mid F);
+        sized = R .sized;
+        variable = omega arith;
+        left = omega (arith, R .left, F .later, F .within);
+      }
+
+      module _ (under : rowAt G lo ! i ≤ q ! i) where
+        pub reached-next : mid < hi → rowAt G mid ! i ≤ q ! i → after (steps + 1) (descendFrom n G q i mid hi) ≡ after steps (descendFrom n G q i lo hi)
+        reached-next l h =
+            rw (left-here) (after-one steps (descend G q (suc (n - i)) i (range lo hi)) (descend G q (suc (n - i)) i (range mid hi)) (range-next G (R .ascends) i lo hi (R .group) q (n - i) mid F under l h))
+
+        pub reached-gap : mid < hi → q ! i < rowAt G mid ! i → rowAt G lo ! i < q ! i → record { found = none; steps = steps + 1; ended = i } ≡ after steps (descendFrom n G q i lo hi)
+        reached-gap l h g = rw (left-here, range-gap G (R .ascends) i lo hi (R .group) q (n - i) mid F under l h g)
+
+        pub reached-down : (mid < hi → q ! i < rowAt G mid ! i) → (mid < hi → q ! i ≤ rowAt G lo ! i) → after (steps + 1) (descendFrom n G q (i + 1) lo mid) ≡ after steps (descendFrom n G q i lo hi)
+        reached-down h g =
+            let e : suc n - (i + 1) ≡ n - i = omega arith in
+            rw (e, add-one i, left-here) (after-one steps (descend G q (suc (n - i)) i (range lo hi)) (descend G q (n - i) (suc i) (range lo mid)) (range-down G (R .ascends) i lo hi (R .group) q (n - i) mid F under h g))

@@ -28,7 +28,7 @@ use Rattle.terms.specs.Order.{Precedes, Ascending}
 use Rattle.terms.proofs.MonomialLaws.{before-suc, before-first}
 use Rattle.terms.proofs.OrderLaws.{ascending-between}
 use Rattle.division.specs.Descent.{Descent, insert, distinct, first, last, numbersFrom, exponents, stepped, goesOn, onward, descend, descent}
-use Rattle.division.specs.Ranges.{range, GroupRange, FirstLarger, Between, Reached, after, descendFrom}
+use Rattle.division.specs.Ranges.{range, GroupRange, FirstLarger, Between, Reached, Ready, after, descendFrom}
 
 -- ---- the distinct numbers of a list
 
@@ -440,3 +440,29 @@ module _ (n : ℕ) (G : Table) (q : Monomial) (i lo hi steps : ℕ) (R : Reached
         reached-down h g =
             let e : suc n - (i + 1) ≡ n - i = omega arith in
             rw (e, add-one i, left-here) (after-one steps (descend G q (suc (n - i)) i (range lo hi)) (descend G q (n - i) (suc i) (range lo mid)) (range-down G (R .ascends) i lo hi (R .group) q (n - i) mid F under h g))
+
+-- ---- the whole table
+
+-- without rows the descent ends at once at the first variable
+pub descent-empty : (n : ℕ) (G : Table) (q : Monomial) → 0 < n → length G ≡ 0 → record { found = none; steps = 0; ended = 1 } ≡ descent n G q
+unfolding descent numbersFrom
+descent-empty zero G q p e = absurd (not-suc-le-zero p)
+descent-empty (suc k) G q p e = rw e (sym (descend-none G q 1 k [] (λ r m. absurd (List·Memᴰ·not-nil m))))
+
+pub descent-all : (n : ℕ) (G : Table) (q : Monomial) → after 0 (descendFrom n G q 1 0 (length G)) ≡ descent n G q
+unfolding descent
+descent-all n G q =
+    let e : suc n - 1 ≡ n = omega arith in
+    let f : length G - 0 ≡ length G = omega arith in
+    let z : 0 + descend G q n 1 (numbersFrom 0 (length G)) .steps ≡ descend G q n 1 (numbersFrom 0 (length G)) .steps = omega arith in
+    rw (e, f, z)
+
+pub reached-start : (n : ℕ) (G : Table) (q : Monomial) → Ready n G → length q ≡ n → 0 < length G → Reached n G q 1 0 (length G) 0
+reached-start n G q R e p = record {
+  ascends = R .ascends;
+  limited = R .limited;
+  group = range-all G p;
+  sized = e;
+  variable = omega arith;
+  left = omega (arith, R .limited, R .few);
+}

@@ -7,6 +7,7 @@
 --   after s d        the descent d, with s steps taken before it
 --   descendFrom n G q i lo hi   rule 6 from variable i on, in the group of the rows lo to before hi
 --   Reached n G q i lo hi steps   what the code knows where it goes on so: the rows ascend, those are a group, and few steps are left
+--   Ready n G        what is known of a table that passed the checks 1 to 3 and 6
 --   descended d      the descent d as the record that the code gives
 use mathlib.Core.Path.{_≡_}
 use mathlib.Core.List.{List}
@@ -54,6 +55,12 @@ pub record Reached (n : ℕ) (G : Table) (q : Monomial) (i lo hi steps : ℕ) : 
   pub sized : length q ≡ n
   pub variable : 0 < i
   pub left : steps + (hi - lo) + (suc n - i) ≤ 4102
+
+pub record Ready (n : ℕ) (G : Table) : Type 0 where
+  pub some : 0 < n
+  pub few : n ≤ 6
+  pub limited : length G ≤ 4096
+  pub ascends : Ascending G
 
 abbrev pub foundRow : Option ℕ → Found
 foundRow none = Nothing

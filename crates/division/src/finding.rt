@@ -9,7 +9,7 @@ ghost use Rattle.terms.specs.Monomials.{_!_, rowAt};
 ghost use Rattle.terms.specs.Rows.{rows};
 ghost use Rattle.terms.specs.Order.{Ascending};
 ghost use Rattle.division.specs.Descent.{descent};
-ghost use Rattle.division.specs.Ranges.{GroupRange, FirstLarger, Between, Reached, after, descendFrom, descended};
+ghost use Rattle.division.specs.Ranges.{GroupRange, FirstLarger, Between, Reached, Ready, after, descendFrom, descended};
 
 // What a descent found.
 pub enum Found {
@@ -113,7 +113,7 @@ fn descend(table: &[u8], n: usize, query: &[u8], i: Variable, lo: RowNumber, hi:
 
 // The descent for the query in the whole table, without the checks (rule 6).
 pub fn descend_table(n: usize, table: &[u8], query: &[u8]) -> Descended
-    requires { ⌜ (0 < n) × (n ≤ 6) × (length (rows n (now table)) ≤ 4096) × Ascending (rows n (now table)) × (length (now query) ≡ n) ⌝ }
+    requires { ⌜ Ready n (rows n (now table)) × (length (now query) ≡ n) ⌝ }
     ensures { λ r. ⌜ r ≡ descended (descent n (rows n (now (table .entry))) (now (query .entry))) ⌝ }
 {
     let count = table.len() / n;

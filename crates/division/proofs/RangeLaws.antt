@@ -1,7 +1,6 @@
 -- Rule 6 over ascending rows: a group is a range of rows, and one step of the descent leaves a smaller range.
 --
 --   distinct-parts   the distinct exponents of rows that share one, followed by rows that exceed it
---   stepped-in, stepped-make   the exponents stepped on are those of the group that do not exceed q's
 --   descend-none     the descent ends with nothing where the least exponent exceeds q's
 --   descend-next     it steps on the least exponent and goes on with the rows above it where one of them does not exceed q's
 --   descend-gap      it ends with nothing where the last exponent stepped on is below q's and not the largest
@@ -10,7 +9,7 @@
 --   range-none, range-next, range-gap, range-down   the same four laws of ranges
 --   larger-unique    there is one first later row with a larger exponent
 use mathlib.Core.Path.{_≡_, refl, sym, ap, _∙_, subst}
-use mathlib.Core.Bool.{Bool, true, false, _&&_, _||_}
+use mathlib.Core.Bool.{Bool, true, false, _||_}
 use mathlib.Core.List.{List, [], _∷_, _++_, map, List·Memᴰ, List·Memᴰ·head, List·Memᴰ·tail, List·Memᴰ·cases-cons, List·Memᴰ·not-nil, List·Memᴰ·append-cases}
 use mathlib.Core.Option.{Option, none, some}
 use mathlib.Core.Logic.{_⊎_, inl, inr, ⊎-elim, by-cases}
@@ -22,47 +21,17 @@ use native.Mathlib.Omega.{arith}
 use borrow.Author.Tests.{le-ltb, lt-ltb, le-leb, lt-leb, eq-eqb, ne-eqb}
 use lib.Dec.{T, leb, ltb, eqb}
 use lib.ListN.{length, getD}
-use Rattle.terms.specs.Tests.{Tests, pick, all, keep, keep-in, keep-make, tests-le, tests-eq, tests-or, tests-all, tests-true, tests-false}
+use Rattle.terms.specs.Tests.{all, keep, tests-true, tests-false}
 use Rattle.terms.specs.Monomials.{Monomial, Table, _!_, rowAt, SameBefore}
 use Rattle.terms.specs.Order.{Precedes, Ascending}
 use Rattle.terms.proofs.MonomialLaws.{before-suc, before-first}
 use Rattle.terms.proofs.OrderLaws.{ascending-between}
 use Rattle.division.specs.Descent.{Descent, insert, distinct, first, last, numbersFrom, exponents, stepped, goesOn, onward, descend, descent}
+use Rattle.division.proofs.NumberLaws.{distinct-in, map-in, numbers-in}
+use Rattle.division.proofs.DescentLaws.{exponents-in, stepped-in, stepped-make, tests-goesOn, descent-empty}
 use Rattle.division.specs.Ranges.{range, GroupRange, FirstLarger, Between, Reached, Ready, after, descendFrom}
 
 -- ---- the distinct numbers of a list
-
-insert-in : (a : ℕ) (l : List ℕ) (x : ℕ) → List·Memᴰ x (insert a l) → (x ≡ a) ⊎ List·Memᴰ x l
-unfolding insert
-insert-in a [] x m = List·Memᴰ·cases-cons m
-insert-in a (b ∷ l) x m = go (ltb a b) (eqb a b) m (insert-in a l x)
-  where
-    go : (s t : Bool) → List·Memᴰ x (pick s (a ∷ (b ∷ l)) (pick t (b ∷ l) (b ∷ insert a l))) → (List·Memᴰ x (insert a l) → (x ≡ a) ⊎ List·Memᴰ x l) → (x ≡ a) ⊎ List·Memᴰ x (b ∷ l)
-    go true t k h = List·Memᴰ·cases-cons k
-    go false true k h = inr k
-    go false false k h = ⊎-elim (λ e. inr (List·Memᴰ·head e)) (λ i. ⊎-elim (λ e. inl e) (λ j. inr (List·Memᴰ·tail j)) (h i)) (List·Memᴰ·cases-cons k)
-
-insert-make : (a : ℕ) (l : List ℕ) (x : ℕ) → (x ≡ a) ⊎ List·Memᴰ x l → List·Memᴰ x (insert a l)
-unfolding insert
-insert-make a [] x (inl e) = List·Memᴰ·head e
-insert-make a [] x (inr m) = absurd (List·Memᴰ·not-nil m)
-insert-make a (b ∷ l) x o = by-cases (decLt a b)
-    (λ h. rw (lt-ltb a b h) (⊎-elim (λ e. List·Memᴰ·head e) (λ m. List·Memᴰ·tail m) o))
-    (λ g. by-cases (ℕ-discrete a b)
-    (λ e. rw (le-ltb a b (omega arith), eq-eqb a b e) (⊎-elim (λ f. List·Memᴰ·head (f ∙ e)) (λ m. m) o))
-    (λ e. rw (le-ltb a b (omega arith), ne-eqb a b e)
-    (⊎-elim (λ f. List·Memᴰ·tail (insert-make a l x (inl f)))
-    (λ m. ⊎-elim (λ f. List·Memᴰ·head f) (λ k. List·Memᴰ·tail (insert-make a l x (inr k))) (List·Memᴰ·cases-cons m)) o)))
-
-pub distinct-in : (l : List ℕ) (x : ℕ) → List·Memᴰ x (distinct l) → List·Memᴰ x l
-unfolding distinct
-distinct-in [] x m = m
-distinct-in (a ∷ l) x m = ⊎-elim (λ e. List·Memᴰ·head e) (λ i. List·Memᴰ·tail (distinct-in l x i)) (insert-in a (distinct l) x m)
-
-pub distinct-make : (l : List ℕ) (x : ℕ) → List·Memᴰ x l → List·Memᴰ x (distinct l)
-unfolding distinct
-distinct-make [] x m = m
-distinct-make (a ∷ l) x m = insert-make a (distinct l) x (⊎-elim (λ e. inl e) (λ i. inr (distinct-make l x i)) (List·Memᴰ·cases-cons m))
 
 -- a number below all others comes first
 insert-least : (a : ℕ) (l : List ℕ) → ((x : ℕ) → List·Memᴰ x l → a < x) → insert a l ≡ a ∷ l
@@ -73,17 +42,6 @@ insert-least a (b ∷ l) h = rw (lt-ltb a b (h b (List·Memᴰ·head refl)))
 insert-again : (a : ℕ) (l : List ℕ) → insert a (a ∷ l) ≡ a ∷ l
 unfolding insert
 insert-again a l = rw (le-ltb a a (omega arith), eq-eqb a a refl)
-
-map-in : (f : ℕ → ℕ) (l : List ℕ) (x : ℕ) → List·Memᴰ x (map f l) → (r : ℕ) × List·Memᴰ r l × (f r ≡ x)
-map-in f [] x m = absurd (List·Memᴰ·not-nil m)
-map-in f (y ∷ l) x m = ⊎-elim
-    (λ e. (y, List·Memᴰ·head refl, sym e))
-    (λ i. let p = map-in f l x i in (p .0, List·Memᴰ·tail (p .1), p .2))
-    (List·Memᴰ·cases-cons m)
-
-map-make : (f : ℕ → ℕ) (l : List ℕ) (r : ℕ) → List·Memᴰ r l → List·Memᴰ (f r) (map f l)
-map-make f [] r m = absurd (List·Memᴰ·not-nil m)
-map-make f (y ∷ l) r m = ⊎-elim (λ e. List·Memᴰ·head (ap f e)) (λ i. List·Memᴰ·tail (map-make f l r i)) (List·Memᴰ·cases-cons m)
 
 -- ---- a group in two parts: rows that share the exponent a, and rows that exceed it
 
@@ -135,22 +93,11 @@ last-in b [] = (b, refl, List·Memᴰ·head refl)
 last-in b (d ∷ l) = let p = last-in d l in (p .0, p .1, List·Memᴰ·tail (p .2))
 
 module _ (G : Table) (q : Monomial) (i : ℕ) where
-  pub stepped-in : (g : List ℕ) (x : ℕ) → List·Memᴰ x (stepped G q i g) → (r : ℕ) × List·Memᴰ r g × (rowAt G r ! i ≡ x) × (x ≤ q ! i)
-  unfolding stepped exponents
-  stepped-in g x m =
-      let k = keep-in (λ e. leb e (q ! i)) (exponents G i g) x m in
-      let p = map-in (λ r. rowAt G r ! i) g x (distinct-in (map (λ r. rowAt G r ! i) g) x (k .0)) in
-      (p .0, p .1, p .2, tests-le x (q ! i) .sound (k .1))
-
-  pub stepped-make : (g : List ℕ) (r : ℕ) → List·Memᴰ r g → rowAt G r ! i ≤ q ! i → List·Memᴰ (rowAt G r ! i) (stepped G q i g)
-  unfolding stepped exponents
-  stepped-make g r m l =
-      keep-make (λ e. leb e (q ! i)) (exponents G i g) (rowAt G r ! i)
-      (distinct-make (map (λ s. rowAt G s ! i) g) (rowAt G r ! i) (map-make (λ s. rowAt G s ! i) g r m))
-      (tests-le (rowAt G r ! i) (q ! i) .complete l)
-
   pub stepped-none : (g : List ℕ) → ((r : ℕ) → List·Memᴰ r g → q ! i < rowAt G r ! i) → stepped G q i g ≡ []
-  stepped-none g h = nothing-in (stepped G q i g) (λ x m. let p = stepped-in g x m in omega (arith, p .2, p .3, h (p .0) (p .1)))
+  stepped-none g h = nothing-in (stepped G q i g) (λ x m.
+      let s = stepped-in G q i g x m in
+      let p = exponents-in G q i g x (s .0) in
+      omega (arith, s .1, p .2, h (p .0) (p .1)))
 
   -- ---- rule 6 at one variable, by the last exponent stepped on
 
@@ -181,10 +128,6 @@ module _ (G : Table) (q : Monomial) (i : ℕ) where
     unfolding goesOn
     goesOn-above c l = ap (λ (b : Bool). eqb c (q ! i) || b) (all-above (λ s. rowAt G s ! i) a above exceed c l (r ∷ g) share)
 
-    tests-goesOn : (c : ℕ) → Tests (goesOn G q i above c) ((c ≡ q ! i) ⊎ ((x : ℕ) → List·Memᴰ x above → rowAt G x ! i ≤ c))
-    unfolding goesOn
-    tests-goesOn c = tests-or (tests-eq c (q ! i)) (tests-all above (λ (x : ℕ) m. tests-le (rowAt G x ! i) c))
-
     -- One of the rows above does not exceed q's exponent: a is stepped on, and the other steps are those of the rows above, since the last
     -- exponent stepped on, the test whether it goes on, and the rows that have it are all the same without the rows that share a.
     pub descend-next : (k x : ℕ) → List·Memᴰ x above → rowAt G x ! i ≤ q ! i → descend G q (suc k) i ((r ∷ g) ++ above) ≡ after 1 (descend G q (suc k) i above)
@@ -204,10 +147,10 @@ module _ (G : Table) (q : Monomial) (i : ℕ) where
             rw (descend-ends k ((r ∷ g) ++ above) c e (goesOn-above c (omega arith) ∙ t), descend-ends k above c f t, n)
 
         by-steps : (s : List ℕ) → stepped G q i above ≡ s → descend G q (suc k) i ((r ∷ g) ++ above) ≡ after 1 (descend G q (suc k) i above)
-        by-steps [] e = absurd (List·Memᴰ·not-nil (subst (λ (s : List ℕ). List·Memᴰ (rowAt G x ! i) s) e (stepped-make above x m l)))
+        by-steps [] e = absurd (List·Memᴰ·not-nil (subst (λ (s : List ℕ). List·Memᴰ (rowAt G x ! i) s) e (stepped-make G q i above x m l)))
         by-steps (b ∷ s) e =
             let p = last-in b s in
-            let w = stepped-in above (p .0) (subst (λ (z : List ℕ). List·Memᴰ (p .0) z) (sym e) (p .2)) in
+            let w = exponents-in G q i above (p .0) (stepped-in G q i above (p .0) (subst (λ (z : List ℕ). List·Memᴰ (p .0) z) (sym e) (p .2)) .0) in
             by-goesOn (p .0) (omega (arith, w .2, exceed (w .0) (w .1))) (ap last stepped-parts ∙ ap (λ (z : List ℕ). last (a ∷ z)) e ∙ p .1)
             (ap last e ∙ p .1) (goesOn G q i above (p .0)) refl
 
@@ -222,21 +165,16 @@ module _ (G : Table) (q : Monomial) (i : ℕ) where
 
       pub descend-gap : (k x : ℕ) → List·Memᴰ x above → a < q ! i → descend G q (suc k) i ((r ∷ g) ++ above) ≡ record { found = none; steps = 1; ended = i }
       descend-gap k x m l =
-          let t : goesOn G q i above a ≡ false = sym (tests-false (tests-goesOn a) (λ o. ⊎-elim (λ e. omega arith) (λ h. omega (arith, h x m, exceed x m)) o)) in
+          let t : goesOn G q i above a ≡ false = sym (tests-false (tests-goesOn G q i above a) (λ o. ⊎-elim (λ e. omega arith) (λ h. omega (arith, h x m, exceed x m)) o)) in
           descend-ends k ((r ∷ g) ++ above) a last-step (goesOn-above a (omega arith) ∙ t)
           ∙ ap (λ (s : List ℕ). record { found = none; steps = length s; ended = i }) one-step
 
       pub descend-down : (k : ℕ) → (a ≡ q ! i) ⊎ (above ≡ []) → descend G q (suc k) i ((r ∷ g) ++ above) ≡ after 1 (descend G q k (suc i) (r ∷ g))
       descend-down k o =
-          let t : goesOn G q i above a ≡ true = sym (tests-true (tests-goesOn a) (⊎-elim (λ e. inl e) (λ e. inr (λ x m. absurd (List·Memᴰ·not-nil (subst (λ (l : List ℕ). List·Memᴰ x l) e m)))) o)) in
+          let t : goesOn G q i above a ≡ true = sym (tests-true (tests-goesOn G q i above a) (⊎-elim (λ e. inl e) (λ e. inr (λ x m. absurd (List·Memᴰ·not-nil (subst (λ (l : List ℕ). List·Memᴰ x l) e m)))) o)) in
           rw (descend-on k ((r ∷ g) ++ above) a last-step (goesOn-above a (omega arith) ∙ t), one-step, keep-same (λ s. rowAt G s ! i) a above exceed (r ∷ g) share)
 
 -- ---- ranges of row numbers
-
-numbers-in : (r k x : ℕ) → List·Memᴰ x (numbersFrom r k) → (r ≤ x) × (x < r + k)
-unfolding numbersFrom
-numbers-in r zero x m = absurd (List·Memᴰ·not-nil m)
-numbers-in r (suc k) x m = ⊎-elim (λ e. (omega arith, omega arith)) (λ i. let p = numbers-in (suc r) k x i in (omega (arith, p .0), omega (arith, p .1))) (List·Memᴰ·cases-cons m)
 
 numbers-first : (r k : ℕ) → 0 < k → List·Memᴰ r (numbersFrom r k)
 unfolding numbersFrom
@@ -444,10 +382,10 @@ module _ (n : ℕ) (G : Table) (q : Monomial) (i lo hi steps : ℕ) (R : Reached
 -- ---- the whole table
 
 -- without rows the descent ends at once at the first variable
-pub descent-empty : (n : ℕ) (G : Table) (q : Monomial) → 0 < n → length G ≡ 0 → record { found = none; steps = 0; ended = 1 } ≡ descent n G q
-unfolding descent numbersFrom
-descent-empty zero G q p e = absurd (not-suc-le-zero p)
-descent-empty (suc k) G q p e = rw e (sym (descend-none G q 1 k [] (λ r m. absurd (List·Memᴰ·not-nil m))))
+pub ready-empty : (n : ℕ) (G : Table) (q : Monomial) → Ready n G → length G ≡ 0 → record { found = none; steps = 0; ended = 1 } ≡ descent n G q
+ready-empty zero G q R e = absurd (not-suc-le-zero (R .some))
+ready-empty (suc n) [] q R e = sym (descent-empty n q)
+ready-empty (suc n) (u ∷ G) q R e = absurd (omega arith)
 
 pub descent-all : (n : ℕ) (G : Table) (q : Monomial) → after 0 (descendFrom n G q 1 0 (length G)) ≡ descent n G q
 unfolding descent

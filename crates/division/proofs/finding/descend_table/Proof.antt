@@ -14,7 +14,7 @@ use Prim.Native.Nat.{_/_}
 use mathlib.Core.Path.{subst}
 use Rattle.division.specs.Descent.{descent}
 use Rattle.division.specs.Ranges.{Reached, after, descendFrom, descended}
-use Rattle.division.proofs.RangeLaws.{descent-empty, descent-all, reached-start}
+use Rattle.division.proofs.RangeLaws.{ready-empty, descent-all, reached-start}
 use Rattle.division.proofs.finding.descend_table.Statement.{statement}
 use Rattle.division.proofs.finding.descend_table.Tie as tie
 use Rattle.division.proofs.finding.descend_table.Reads as reads
@@ -31,7 +31,7 @@ returns c =
     let s = c .before .before .before in
     let a = s .args in
     let e = length-rows (a .n) (a .table .now) in
-    ap descended (descent-empty (a .n) (rows (a .n) (a .table .now)) (a .query .now) (s .pre .0 .some) (omega (arith, c .if1 .taken)))
+    ap descended (ready-empty (a .n) (rows (a .n) (a .table .now)) (a .query .now) (s .pre .0) (omega (arith, c .if1 .taken)))
 
 -- src/finding.rt:123:5
 descend-requires : tie.Need-descend-requires

@@ -6,3 +6,4 @@ pub mod NumberLaws
 pub mod DescentLaws
 pub mod Facade
 pub mod Examples
+pub mod RangeLaws

@@ -3,3 +3,4 @@ pub mod Cones
 pub mod Janet
 pub mod Scan
 pub mod Descent
+pub mod Ranges

@@ -1,0 +1,70 @@
+-- Ranges of rows: over ascending rows a group of the descent is the rows from one number to before another.
+--
+--   range lo hi      the numbers of the rows from lo to before hi
+--   GroupRange G i lo hi   rows lo to before hi are some rows of G, all equal before variable i
+--   FirstLarger G i lo hi r   r is the first later row of the range with a larger exponent at i than row lo, or hi where there is none
+--   Between G i a lo hi low high   row low of the range has no exponent above a at i, row high has one above it, or is the range's end
+--   after s d        the descent d, with s steps taken before it
+--   descendFrom n G q i lo hi   rule 6 from variable i on, in the group of the rows lo to before hi
+--   Reached n G q i lo hi steps   what the code knows where it goes on so: the rows ascend, those are a group, and few steps are left
+--   Ready n G        what is known of a table that passed the checks 1 to 3 and 6
+--   descended d      the descent d as the record that the code gives
+use mathlib.Core.Path.{_≡_}
+use mathlib.Core.List.{List}
+use mathlib.Core.Option.{Option, none, some}
+use Prim.Native.Nat.{ℕ, suc, _+_, _-_, _≤_, _<_}
+use lib.ListN.{length}
+use Rattle.terms.specs.Monomials.{Monomial, Table, _!_, rowAt, SameBefore}
+use Rattle.terms.specs.Order.{Ascending}
+use Rattle.division.specs.Descent.{Descent, numbersFrom, descend}
+use Rattle.division.specs.declared.finding.Found.{Found}
+use Rattle.division.specs.declared.finding.Found.the-variants.{Row, Nothing}
+use Rattle.division.specs.declared.finding.Descended.{Descended}
+
+abbrev pub range : ℕ → ℕ → List ℕ
+range lo hi = numbersFrom lo (hi - lo)
+
+pub record GroupRange (G : Table) (i lo hi : ℕ) : Type 0 where
+  pub some : lo < hi
+  pub within : hi ≤ length G
+  pub same : (r : ℕ) → lo ≤ r → r < hi → SameBefore i (rowAt G lo) (rowAt G r)
+
+pub record FirstLarger (G : Table) (i lo hi r : ℕ) : Type 0 where
+  pub later : lo < r
+  pub within : r ≤ hi
+  pub none : (s : ℕ) → lo < s → s < r → rowAt G s ! i ≤ rowAt G lo ! i
+  pub larger : r < hi → rowAt G lo ! i < rowAt G r ! i
+
+pub record Between (G : Table) (i a lo hi low high : ℕ) : Type 0 where
+  pub from : lo ≤ low
+  pub apart : low < high
+  pub within : high ≤ hi
+  pub not-above : rowAt G low ! i ≤ a
+  pub above : high < hi → a < rowAt G high ! i
+
+abbrev pub after : ℕ → Descent → Descent
+after s d = record { found = d .found; steps = s + d .steps; ended = d .ended }
+
+abbrev pub descendFrom : ℕ → Table → Monomial → ℕ → ℕ → ℕ → Descent
+descendFrom n G q i lo hi = descend G q (suc n - i) i (range lo hi)
+
+pub record Reached (n : ℕ) (G : Table) (q : Monomial) (i lo hi steps : ℕ) : Type 0 where
+  pub ascends : Ascending G
+  pub limited : length G ≤ 4096
+  pub group : GroupRange G i lo hi
+  pub sized : length q ≡ n
+  pub variable : 0 < i
+  pub left : steps + (hi - lo) + (suc n - i) ≤ 4102
+
+pub record Ready (n : ℕ) (G : Table) : Type 0 where
+  pub some : 0 < n
+  pub few : n ≤ 6
+  pub limited : length G ≤ 4096
+  pub ascends : Ascending G
+
+abbrev pub foundRow : Option ℕ → Found
+foundRow none = Nothing
+foundRow (some r) = Row (record { 0 = r })
+
+abbrev pub descended : Descent → Descended
+descended d = record { found = foundRow (d .found); steps = d .steps; ended = record { 0 = d .ended } }

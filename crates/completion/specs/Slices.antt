@@ -7,8 +7,6 @@
 --   front a G            the rows of G with head below a
 --   heads G              one more than the largest head of G, 0 for no rows
 --   fresh G tails        one of the tails is outside the ideal of G
---   behind a B           the rows of B with the head a before each
---   repeated b k B       B behind each of the heads b, b + 1, .. : k heads
 --   Walk                 the state of the walk over the heads
 --   shorter B G          the one of two tables that has fewer rows, G where they have as many
 --   grown f a w G        the walk after a head a that adds to the ideal: G generates the slice of the heads up to a
@@ -24,12 +22,13 @@
 use mathlib.Core.Path.{_≡_}
 use mathlib.Core.Bool.{Bool, not}
 use mathlib.Core.List.{List, [], _∷_, _++_, map, tail}
-use Prim.Native.Nat.{ℕ, zero, suc, _+_, _-_}
+use Prim.Native.Nat.{ℕ, zero, suc, _-_}
 use lib.Dec.{leb, ltb, eqb}
 use lib.ListN.{length}
 use Rattle.terms.specs.Tests.{pick, any, keep}
 use Rattle.terms.specs.Monomials.{Monomial, Table, _!_, OfSize}
 use Rattle.terms.specs.Ideal.{SameIdeal, insideTest}
+use Rattle.completion.specs.Blocks.{behind, repeated}
 
 -- ---- slices of a table
 
@@ -58,16 +57,6 @@ heads (u ∷ G) = let h = heads G in pick (ltb (head u) h) h (suc (head u))
 unfoldable pub fresh : Table → Table → Bool
 unfolding insideTest
 fresh G tails = any (λ t. not (insideTest G t)) tails
-
--- ---- blocks of rows
-
-unfoldable pub behind : ℕ → Table → Table
-behind a B = map (λ t. a ∷ t) B
-
-unfoldable pub repeated : ℕ → ℕ → Table → Table
-unfolding behind
-repeated b zero B = []
-repeated b (suc k) B = repeated b k B ++ behind (b + k) B
 
 -- ---- the walk over the heads
 

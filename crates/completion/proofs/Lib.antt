@@ -1,0 +1,3 @@
+-- The laws of the completed table and of its completion by slices.
+pub mod BlockLaws
+pub mod Examples

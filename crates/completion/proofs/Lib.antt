@@ -1,3 +1,4 @@
 -- The laws of the completed table and of its completion by slices.
 pub mod BlockLaws
+pub mod CompletedLaws
 pub mod Examples

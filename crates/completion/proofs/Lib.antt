@@ -1,4 +1,5 @@
 -- The laws of the completed table and of its completion by slices.
 pub mod BlockLaws
 pub mod CompletedLaws
+pub mod CompletionLaws
 pub mod Examples

@@ -2,4 +2,5 @@
 pub mod BlockLaws
 pub mod CompletedLaws
 pub mod CompletionLaws
+pub mod SliceLaws
 pub mod Examples

@@ -3,4 +3,5 @@ pub mod BlockLaws
 pub mod CompletedLaws
 pub mod CompletionLaws
 pub mod SliceLaws
+pub mod WalkLaws
 pub mod Examples

@@ -1,0 +1,240 @@
+-- The recursion by slices gives rule 5's table.
+-- The walk over the heads is stated for any family of tables that ideals settle, so that other completions go the same way; Janet's is the first.
+--
+--   Family n S Ok          what the walk asks of S, and of the tables that it gives to the recursion
+--   Passed a w             what holds of a walk that has passed the heads below a
+--   passed-step, passed    it holds after one more head, and after each number of them
+--   slices-table           the recursion gives the completed table of every table
+--   slices-completed       it is `completed`
+--   slices-same            tables with the same ideal give the same
+--   slices-none, slices-one   no rows; one variable: the least exponent
+--   walk-part              what the walk has written is a front part of the result
+--   walked-start, -stays, -grows, -step, -done   the walk with any generators of the ideal, as code keeps it
+use mathlib.Core.Path.{_≡_, refl, sym, ap, _∙_, subst}
+use mathlib.Core.Bool.{Bool, true, false}
+use mathlib.Core.List.{List, [], _∷_, _++_, List·Memᴰ·head, List·Memᴰ·not-nil, List·Memᴰ·append-cases}
+use mathlib.Core.Logic.{_⊎_, ⊎-elim}
+use Prim.Native.Nat.{ℕ, zero, suc, _-_, _<_}
+use native.Mathlib.Nat.{not-suc-le-zero}
+use lib.Dec.{ltb, eqb}
+use lib.ListN.{length}
+use Rattle.terms.specs.Tests.{Tests, pick, true-tests, false-tests, tests-true, tests-false}
+use Rattle.terms.specs.Monomials.{Monomial, Table, _!_, _∈_, OfSize}
+use Rattle.terms.specs.Ideal.{SameIdeal}
+use Rattle.terms.proofs.IdealLaws.{inside-none, same-ideal-refl, same-ideal-sym, same-ideal-trans}
+use Rattle.completion.specs.Blocks.{behind, repeated}
+use Rattle.completion.specs.Completed.{Completed, CompletedTable, completed}
+use Rattle.completion.specs.Slices.{at, below, under, front, heads, fresh, Walk, started, shorter, stepped, grown, step, walk, slices, Walked}
+use Rattle.completion.proofs.BlockLaws.{Lists, lists-none}
+use Rattle.completion.proofs.CompletedLaws.{completed-table, completed-same-ideal}
+use Rattle.completion.proofs.CompletionLaws.{completion-ideal}
+use Rattle.completion.proofs.SliceLaws.{table-lists, lists-table, at-size, below-none, Grows, still-ideal, tests-grows-by, generates-under, Settled, moves-lists, completed-settled, Last, last-start, last-stays, last-grows, Upto, upto-stays, upto-grows, front-table, finish, front-part, heads-above, empty, no-variables, one-variable, Least}
+
+-- ---- the walk over the heads
+
+pub record Family (n : ℕ) (S : Table → Monomial → Type 0) (Ok : Table → Type 0) : Type 0 where
+  pub settled : Settled n S
+  pub none : Ok []
+  pub both : (G H : Table) → Ok G → Ok H → Ok (G ++ H)
+  pub made : (G K : Table) → Ok G → Lists (S G) K → Ok K
+  pub generates : (G K : Table) → Ok G → Lists (S G) K → SameIdeal n G K
+
+module _ {n : ℕ} {S : Table → Monomial → Type 0} {Ok : Table → Type 0} (y : Family n S Ok) (G : Table) (z : OfSize (suc n) G) (ok : (a : ℕ) → Ok (at a G)) (f : Table → Table) (rec : (H : Table) → Ok H → Lists (S H) (f H)) where
+  pub record Passed (a : ℕ) (w : Walk) : Type 0 where
+    pub written : Lists (Upto S G a (w .last)) (w .written)
+    pub block : Lists (S (below a G)) (w .block)
+    pub ideal : SameIdeal n (w .generators) (below a G)
+    pub fine : Ok (w .generators)
+    pub last : Last G a (w .last)
+    -- the block stands at the end of what is written
+    pub end : (R : Table) × (R ++ behind (w .last) (w .block) ≡ w .written)
+
+  passed-start : Passed 0 started
+  unfolding behind
+  passed-start = record {
+    written = lists-none (λ u h. not-suc-le-zero (h .allowed .0));
+    block = lists-none (λ u h. below-none G (y .settled .within (below 0 G) u h));
+    ideal = record { into = λ q e h. absurd (inside-none q h); back = λ q e h. absurd (below-none G h) };
+    fine = y .none;
+    last = last-start G;
+    end = ([], refl);
+  }
+
+  passed-stays : {a : ℕ} {w : Walk} → (Grows a G → ⊥) → Passed a w → Passed (suc a) w
+  passed-stays {a} g h =
+      let s : SameIdeal n (below a G) (under a G) = same-ideal-sym (still-ideal n g) in
+      record {
+        written = upto-stays (y .settled) G (h .last) g (h .written);
+        block = moves-lists (y .settled) (below a G) (under a G) s (h .block);
+        ideal = same-ideal-trans (h .ideal) s;
+        fine = h .fine;
+        last = last-stays g (h .last);
+        end = h .end;
+      }
+
+  passed-grows : {a : ℕ} {w : Walk} (K : Table) → Grows a G → Passed a w → SameIdeal n K (under a G) → Ok K → Passed (suc a) (grown f a w K)
+  unfolding grown shorter
+  passed-grows {a} {w} K g h s o =
+      let t : Lists (S (under a G)) (f K) = moves-lists (y .settled) K (under a G) s (rec K o) in
+      let i : SameIdeal n (f K) (under a G) = same-ideal-trans (same-ideal-sym (y .generates K (f K) o (rec K o))) s in
+      record {
+        written = upto-grows (y .settled) G (h .last) (h .written) (h .block) t;
+        block = t;
+        ideal = either (λ (H : Table). SameIdeal n H (under a G)) (ltb (length (f K)) (length K)) i s;
+        fine = either Ok (ltb (length (f K)) (length K)) (y .made K (f K) o (rec K o)) o;
+        last = last-grows g;
+        end = (w .written ++ repeated (suc (w .last)) (a - suc (w .last)) (w .block), refl);
+      }
+    where
+      either : (P : Table → Type 0) (c : Bool) → P (f K) → P K → P (pick c (f K) K)
+      either P true p q = p
+      either P false p q = q
+
+  pub passed-step : {a : ℕ} {w : Walk} → Passed a w → Passed (suc a) (step f G a w)
+  unfolding step
+  passed-step {a} {w} h = go (fresh (w .generators) (at a G)) (tests-grows-by a G (h .ideal) z)
+    where
+      go : (c : Bool) → Tests c (Grows a G) → Passed (suc a) (pick c (grown f a w (w .generators ++ at a G)) w)
+      go true t = passed-grows (w .generators ++ at a G) (t .sound tt) h (generates-under a G (h .ideal)) (y .both (w .generators) (at a G) (h .fine) (ok a))
+      go false t = passed-stays (t .complete) h
+
+  pub passed : (a : ℕ) → Passed a (walk f G a)
+  unfolding walk
+  passed zero = passed-start
+  passed (suc a) = passed-step (passed a)
+
+-- ---- Janet's recursion
+
+pub size-none : (n : ℕ) → OfSize n []
+size-none n u m = absurd (List·Memᴰ·not-nil m)
+
+pub size-both : (n : ℕ) (G H : Table) → OfSize n G → OfSize n H → OfSize n (G ++ H)
+size-both n G H z y u m = ⊎-elim (z u) (y u) (List·Memᴰ·append-cases G m)
+
+pub janet-family : (n : ℕ) → Family n (Completed n) (OfSize n)
+janet-family n = record {
+  settled = completed-settled n;
+  none = size-none n;
+  both = size-both n;
+  made = λ G K z t u m. t .only u m .size;
+  generates = λ G K z t. completion-ideal n G z (lists-table t);
+}
+
+module _ (n : ℕ) (G : Table) (z : OfSize (suc n) G) (rec : (H : Table) → OfSize n H → CompletedTable n H (slices n H)) where
+  janet-passed : (a : ℕ) → Passed (janet-family n) G z (λ b. at-size b G z) (λ H. slices n H) (λ H s. table-lists (rec H s)) a (walk (λ H. slices n H) G a)
+  janet-passed a = passed (janet-family n) G z (λ b. at-size b G z) (λ H. slices n H) (λ H s. table-lists (rec H s)) a
+
+  -- after the heads below a: the completed table of the rows with such a head
+  janet-front : (a : ℕ) → CompletedTable (suc n) (front a G) (walk (λ H. slices n H) G a .written)
+  janet-front a = let w = janet-passed a in front-table n G z (w .last) (w .written)
+
+pub slices-table : (n : ℕ) (G : Table) → OfSize n G → CompletedTable n G (slices n G)
+unfolding slices
+slices-table zero [] z = empty 0
+slices-table zero (u ∷ G) z = no-variables z (List·Memᴰ·head refl)
+slices-table (suc n) G z = finish n G (heads-above G) (janet-front n G z (slices-table n) (heads G))
+
+-- Any completed table, of any table of the ideal, is the recursion's.
+pub slices-unique : {n : ℕ} {G H K : Table} → OfSize n G → SameIdeal n G H → CompletedTable n H K → slices n G ≡ K
+slices-unique {n} {G} z s t = completed-same-ideal s (slices-table n G z) t
+
+pub slices-same : {n : ℕ} {G H : Table} → OfSize n G → OfSize n H → SameIdeal n G H → slices n G ≡ slices n H
+slices-same {n} {G} {H} z y s = slices-unique z s (slices-table n H y)
+
+pub slices-completed : (n : ℕ) (G : Table) → OfSize n G → slices n G ≡ completed n G
+slices-completed n G z = slices-unique z (same-ideal-refl n G) (completed-table n G z)
+
+pub slices-size : (n : ℕ) (G : Table) → OfSize n G → OfSize n (slices n G)
+slices-size n G z u m = slices-table n G z .only u m .size
+
+pub slices-none : (n : ℕ) → slices n [] ≡ []
+slices-none n = slices-unique (size-none n) (same-ideal-refl n []) (empty n)
+
+pub slices-one : {G : Table} {m : ℕ} → OfSize 1 G → Least G m → slices 1 G ≡ (m ∷ []) ∷ []
+slices-one {G} z l = slices-unique z (same-ideal-refl 1 G) (one-variable z l)
+
+-- What the walk has written is a front part of the result.
+pub walk-part : (n : ℕ) (G : Table) → OfSize (suc n) G → (a : ℕ) → (R : Table) × (walk (λ H. slices n H) G a .written ++ R ≡ slices (suc n) G)
+walk-part n G z a = front-part n G z a (janet-front n G z (slices-table n) a) (slices-table (suc n) G z)
+
+-- past the last head it is the result
+pub walk-done : (n : ℕ) (G : Table) → OfSize (suc n) G → (a : ℕ) → ((u : Monomial) → u ∈ G → u ! 1 < a) → walk (λ H. slices n H) G a .written ≡ slices (suc n) G
+walk-done n G z a h = sym (slices-unique z (same-ideal-refl (suc n) G) (finish n G h (janet-front n G z (slices-table n) a)))
+
+-- ---- the walk with any generators of the ideal
+
+pub walked-start : (n : ℕ) (G : Table) → Walked n G 0 started
+unfolding walk
+walked-start n G = record {
+  written = refl;
+  block = refl;
+  last = refl;
+  size = size-none n;
+  ideal = record { into = λ q e h. absurd (inside-none q h); back = λ q e h. absurd (below-none G h) };
+}
+
+module _ {n : ℕ} {G : Table} (z : OfSize (suc n) G) {a : ℕ} {w : Walk} (h : Walked n G a w) where
+  -- the walk of `slices` itself
+  abbrev model : Walk
+  model = walk (λ H. slices n H) G a
+
+  model-ideal : SameIdeal n (model .generators) (below a G)
+  model-ideal = janet-passed n G z (slices-table n) a .ideal
+
+  model-stays : (Grows a G → ⊥) → walk (λ H. slices n H) G (suc a) ≡ model
+  unfolding walk step
+  model-stays g = ap (λ (c : Bool). pick c (grown (λ H. slices n H) a model (model .generators ++ at a G)) model) (sym (tests-false (tests-grows-by a G model-ideal z) g))
+
+  model-grows : Grows a G → walk (λ H. slices n H) G (suc a) ≡ grown (λ H. slices n H) a model (model .generators ++ at a G)
+  unfolding walk step
+  model-grows g = ap (λ (c : Bool). pick c (grown (λ H. slices n H) a model (model .generators ++ at a G)) model) (sym (tests-true (tests-grows-by a G model-ideal z) g))
+
+  -- at a head that does not grow nothing changes
+  pub walked-stays : fresh (w .generators) (at a G) ≡ false → Walked n G (suc a) w
+  walked-stays e =
+      let g : Grows a G → ⊥ = false-tests (tests-grows-by a G (h .ideal) z) e in
+      let s = sym (model-stays g) in
+      record {
+        written = h .written ∙ ap (λ (v : Walk). v .written) s;
+        block = h .block ∙ ap (λ (v : Walk). v .block) s;
+        last = h .last ∙ ap (λ (v : Walk). v .last) s;
+        size = h .size;
+        ideal = same-ideal-trans (h .ideal) (same-ideal-sym (still-ideal n g));
+      }
+
+  -- At a growing head: K is whatever generates the ideal of the generators and the tails of head a, N whatever is kept of it.
+  pub walked-grows : (K N : Table) → fresh (w .generators) (at a G) ≡ true → OfSize n K → SameIdeal n K (w .generators ++ at a G) → OfSize n N → SameIdeal n N K →
+      Walked n G (suc a) (record { written = stepped (w .written) (w .last) (w .block) a (slices n K); block = slices n K; generators = N; last = a })
+  unfolding grown
+  walked-grows K N e k s l t =
+      let g : Grows a G = true-tests (tests-grows-by a G (h .ideal) z) e in
+      let m = sym (model-grows g) in
+      let u : SameIdeal n K (under a G) = same-ideal-trans s (generates-under a G (h .ideal)) in
+      let same : slices n K ≡ slices n (model .generators ++ at a G) = slices-same k
+      (size-both n (model .generators) (at a G) (janet-passed n G z (slices-table n) a .fine) (at-size a G z))
+      (same-ideal-trans u (same-ideal-sym (generates-under a G model-ideal))) in
+      record {
+        written = rw (h .written, h .block, h .last, same) (ap (λ (v : Walk). v .written) m);
+        block = same ∙ ap (λ (v : Walk). v .block) m;
+        last = ap (λ (v : Walk). v .last) m;
+        size = l;
+        ideal = same-ideal-trans t u;
+      }
+
+  -- the block stands at the end of what is written
+  pub walked-end : (R : Table) × (R ++ behind (w .last) (w .block) ≡ w .written)
+  walked-end =
+      let r = janet-passed n G z (slices-table n) a .end in
+      (r .0, rw (h .written, h .block, h .last) (r .1))
+
+  -- it is the completed table of the slices below a
+  pub walked-block : CompletedTable n (below a G) (w .block)
+  walked-block = subst (λ (B : Table). CompletedTable n (below a G) B) (sym (h .block)) (lists-table (janet-passed n G z (slices-table n) a .block))
+
+  pub walked-part : (R : Table) × (w .written ++ R ≡ slices (suc n) G)
+  walked-part =
+      let r = walk-part n G z a in
+      (r .0, rw (h .written) (r .1))
+
+  pub walked-done : ((u : Monomial) → u ∈ G → u ! 1 < a) → w .written ≡ slices (suc n) G
+  walked-done o = h .written ∙ walk-done n G z a o

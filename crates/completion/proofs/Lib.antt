@@ -4,4 +4,5 @@ pub mod CompletedLaws
 pub mod CompletionLaws
 pub mod SliceLaws
 pub mod WalkLaws
+pub mod BufferLaws
 pub mod Examples

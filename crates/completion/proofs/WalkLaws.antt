@@ -221,6 +221,27 @@ module _ {n : ℕ} {G : Table} (z : OfSize (suc n) G) {a : ℕ} {w : Walk} (h : 
         ideal = same-ideal-trans t u;
       }
 
+  -- the model's own step, which keeps the shorter of the block and its generators
+  pub walked-step : Walked n G (suc a) (step (λ H. slices n H) G a w)
+  unfolding step grown shorter
+  walked-step = go (fresh (w .generators) (at a G)) refl
+    where
+      K : Table
+      K = w .generators ++ at a G
+
+      size : OfSize n K
+      size = size-both n (w .generators) (at a G) (h .size) (at-size a G z)
+
+      either : (P : Table → Type 0) (c : Bool) → P (slices n K) → P K → P (pick c (slices n K) K)
+      either P true p q = p
+      either P false p q = q
+
+      go : (c : Bool) → fresh (w .generators) (at a G) ≡ c → Walked n G (suc a) (pick c (grown (λ H. slices n H) a w K) w)
+      go true e = walked-grows K (shorter (slices n K) K) e size (same-ideal-refl n K)
+          (either (OfSize n) (ltb (length (slices n K)) (length K)) (slices-size n K size) size)
+          (either (λ (N : Table). SameIdeal n N K) (ltb (length (slices n K)) (length K)) (same-ideal-sym (completion-ideal n K size (slices-table n K size))) (same-ideal-refl n K))
+      go false e = walked-stays e
+
   -- the block stands at the end of what is written
   pub walked-end : (R : Table) × (R ++ behind (w .last) (w .block) ≡ w .written)
   walked-end =

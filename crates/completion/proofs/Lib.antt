@@ -5,4 +5,5 @@ pub mod CompletionLaws
 pub mod SliceLaws
 pub mod WalkLaws
 pub mod BufferLaws
+pub mod OperationLaws
 pub mod Examples

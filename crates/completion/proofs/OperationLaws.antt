@@ -3,8 +3,7 @@
 --   complete-unique        two results that the promise allows are equal
 --   complete-accepts       where no check refuses: the row count, the rows at the front, and the bytes behind them
 --   complete-refuses       where one does: its number, and the buffer as it was
---   room-table, no-room    8 after the checks 1 to 4 passed, in terms of the completed table
---   example-J..            D's rows with 6 bytes of room are accepted, with 5 refused by 8
+--   room-enough, no-room   8 after the checks 1 to 4 passed, in terms of the completed table
 use mathlib.Core.Path.{_≡_, refl, sym, ap, _∙_, subst}
 use mathlib.Core.Bool.{Bool, true, false}
 use mathlib.Core.List.{List, [], _∷_, _++_}
@@ -17,7 +16,6 @@ use Rattle.terms.specs.Tests.{pick, tests-eq, tests-true, tests-false}
 use Rattle.terms.specs.Rows.{rows, flat}
 use Rattle.terms.specs.Refusals.{Accepts, refusal, tableChecks}
 use Rattle.terms.proofs.RefusalLaws.{refusal-holds, refusal-passes, refusal-append}
-use Rattle.completion.specs.Completed.{completed}
 use Rattle.completion.specs.Operation.{roomFor, completedOf, NoRoom, roomCheck, completeChecks, completeNumber, completeCase, completeAnswer, completeBuffer, CompletePromise}
 use Rattle.completion.specs.declared.CompleteAnswer.{CompleteAnswer}
 use Rattle.completion.specs.declared.CompleteAnswer.the-variants.{Rows, Refused}
@@ -68,13 +66,3 @@ room-enough n table size a l =
 
 pub no-room : (n : ℕ) (table : List ℕ) (size : ℕ) → Accepts (tableChecks n table) → NoRoom n table size → refusal (completeChecks n table size) ≡ 8
 no-room n table size a h = refusal-append (tableChecks n table) (roomCheck n table size ∷ []) a ∙ refusal-holds (roomCheck n table size) [] h
-
--- ---- example J
-
-pub example-J-answer : completeAnswer 2 (2 ∷ 1 ∷ 0 ∷ 2 ∷ []) 6 ≡ Rows 3
-unfolding completeAnswer completed rows roomFor
-example-J-answer = refl
-
-pub example-J-refused : completeAnswer 2 (2 ∷ 1 ∷ 0 ∷ 2 ∷ []) 5 ≡ Refused 8
-unfolding completeAnswer completed rows roomFor
-example-J-refused = refl

@@ -8,23 +8,27 @@
 --   slices-completed       it is `completed`
 --   slices-same            tables with the same ideal give the same
 --   slices-none, slices-one   no rows; one variable: the least exponent
---   walk-part              what the walk has written is a front part of the result
+--   slices-walk, walk-stays, walk-grows   the recursion and the walk, equation by equation
+--   walk-few, walk-room    the generators are no more than the rows passed, and with the tails of a head no more than the rows
+--   walk-generators, walk-block, walk-written   the sizes of the rows in the walk of `slices`
+--   walk-part, walk-done   what the walk has written is a front part of the result, and past the last head it is the result
 --   walked-start, -stays, -grows, -step, -done   the walk with any generators of the ideal, as code keeps it
 use mathlib.Core.Path.{_≡_, refl, sym, ap, _∙_, subst}
 use mathlib.Core.Bool.{Bool, true, false}
-use mathlib.Core.List.{List, [], _∷_, _++_, List·Memᴰ·head, List·Memᴰ·not-nil, List·Memᴰ·append-cases}
+use mathlib.Core.List.{List, [], _∷_, _++_, map, tail, List·Memᴰ·head, List·Memᴰ·not-nil, List·Memᴰ·append-cases}
 use mathlib.Core.Logic.{_⊎_, ⊎-elim}
-use Prim.Native.Nat.{ℕ, zero, suc, _-_, _<_}
+use Prim.Native.Nat.{ℕ, zero, suc, _+_, _-_, _≤_, _<_}
 use native.Mathlib.Nat.{not-suc-le-zero}
-use lib.Dec.{ltb, eqb}
-use lib.ListN.{length}
-use Rattle.terms.specs.Tests.{Tests, pick, true-tests, false-tests, tests-true, tests-false}
+use native.Mathlib.Omega.{arith}
+use lib.Dec.{T, ltb, eqb}
+use lib.ListN.{length, length-append}
+use Rattle.terms.specs.Tests.{Tests, pick, keep, tests-lt, tests-eq, true-tests, false-tests, tests-true, tests-false}
 use Rattle.terms.specs.Monomials.{Monomial, Table, _!_, _∈_, OfSize}
 use Rattle.terms.specs.Ideal.{SameIdeal}
 use Rattle.terms.proofs.IdealLaws.{inside-none, same-ideal-refl, same-ideal-sym, same-ideal-trans}
 use Rattle.completion.specs.Blocks.{behind, repeated}
 use Rattle.completion.specs.Completed.{Completed, CompletedTable, completed}
-use Rattle.completion.specs.Slices.{at, below, under, front, heads, fresh, Walk, started, shorter, stepped, grown, step, walk, slices, Walked}
+use Rattle.completion.specs.Slices.{slice, at, below, under, front, heads, fresh, Walk, started, shorter, stepped, grown, step, walk, slices, Walked}
 use Rattle.completion.proofs.BlockLaws.{Lists, lists-none}
 use Rattle.completion.proofs.CompletedLaws.{completed-table, completed-same-ideal}
 use Rattle.completion.proofs.CompletionLaws.{completion-ideal}
@@ -152,6 +156,97 @@ slices-none n = slices-unique (size-none n) (same-ideal-refl n []) (empty n)
 
 pub slices-one : {G : Table} {m : ℕ} → OfSize 1 G → Least G m → slices 1 G ≡ (m ∷ []) ∷ []
 slices-one {G} z l = slices-unique z (same-ideal-refl 1 G) (one-variable z l)
+
+-- ---- the walk, equation by equation
+
+pub slices-walk : (n : ℕ) (G : Table) → slices (suc n) G ≡ walk (λ H. slices n H) G (heads G) .written
+unfolding slices
+slices-walk n G = refl
+
+module _ (f : Table → Table) (G : Table) (a : ℕ) where
+  pub walk-stays : fresh (walk f G a .generators) (at a G) ≡ false → walk f G (suc a) ≡ walk f G a
+  unfolding walk step
+  walk-stays e = ap (λ (c : Bool). pick c (grown f a (walk f G a) (walk f G a .generators ++ at a G)) (walk f G a)) e
+
+  pub walk-grows : fresh (walk f G a .generators) (at a G) ≡ true → walk f G (suc a) ≡ grown f a (walk f G a) (walk f G a .generators ++ at a G)
+  unfolding walk step
+  walk-grows e = ap (λ (c : Bool). pick c (grown f a (walk f G a) (walk f G a .generators ++ at a G)) (walk f G a)) e
+
+-- ---- how many rows the walk keeps
+
+-- of two slices that no head shares, within a third
+slices-within : (f g h : ℕ → Bool) (G : Table) → ((b : ℕ) → T (f b) → T (h b)) → ((b : ℕ) → T (g b) → T (h b)) → ((b : ℕ) → T (f b) → T (g b) → ⊥) → length (slice f G) + length (slice g G) ≤ length (slice h G)
+unfolding slice
+slices-within f g h [] p q r = omega arith
+slices-within f g h (u ∷ G) p q r = go (f (u ! 1)) (g (u ! 1)) (h (u ! 1)) (p (u ! 1)) (q (u ! 1)) (r (u ! 1)) (slices-within f g h G p q r)
+  where
+    count : (ℕ → Bool) → Bool → ℕ
+    count k c = length (map tail (pick c (u ∷ keep (λ v. k (v ! 1)) G) (keep (λ v. k (v ! 1)) G)))
+
+    go : (x y z : Bool) → (T x → T z) → (T y → T z) → (T x → T y → ⊥) → length (slice f G) + length (slice g G) ≤ length (slice h G) → count f x + count g y ≤ count h z
+    go true true z i j k l = absurd (k tt tt)
+    go true false true i j k l = omega arith
+    go true false false i j k l = absurd (i tt)
+    go false true true i j k l = omega arith
+    go false true false i j k l = absurd (j tt)
+    go false false true i j k l = omega arith
+    go false false false i j k l = l
+
+pub slice-few : (f : ℕ → Bool) (G : Table) → length (slice f G) ≤ length G
+unfolding slice
+slice-few f [] = omega arith
+slice-few f (u ∷ G) = go (f (u ! 1)) (slice-few f G)
+  where
+    go : (x : Bool) → length (slice f G) ≤ length G → length (map tail (pick x (u ∷ keep (λ v. f (v ! 1)) G) (keep (λ v. f (v ! 1)) G))) ≤ suc (length G)
+    go true l = omega arith
+    go false l = omega arith
+
+-- the tails of head a come to those of the heads below
+pub under-counts : (a : ℕ) (G : Table) → length (below a G) + length (at a G) ≤ length (under a G)
+under-counts a G = slices-within (λ b. ltb b a) (λ b. eqb b a) (λ b. ltb b (suc a)) G
+    (λ b t. tests-lt b (suc a) .complete (omega (arith, tests-lt b a .sound t)))
+    (λ b t. tests-lt b (suc a) .complete (omega (arith, tests-eq b a .sound t)))
+    (λ b s t. omega (arith, tests-lt b a .sound s, tests-eq b a .sound t))
+
+shorter-few : (B K : Table) → length (shorter B K) ≤ length K
+unfolding shorter
+shorter-few B K = go (ltb (length B) (length K)) (tests-lt (length B) (length K) .sound)
+  where
+    go : (c : Bool) → (T c → length B < length K) → length (pick c B K) ≤ length K
+    go true l = omega (arith, l tt)
+    go false l = omega arith
+
+-- whatever f gives, the shorter of it and its generators is kept
+pub walk-few : (f : Table → Table) (G : Table) (a : ℕ) → length (walk f G a .generators) ≤ length (below a G)
+unfolding walk step grown
+walk-few f G zero = omega arith
+walk-few f G (suc a) = go (fresh (walk f G a .generators) (at a G)) (walk-few f G a)
+  where
+    K : Table
+    K = walk f G a .generators ++ at a G
+
+    go : (c : Bool) → length (walk f G a .generators) ≤ length (below a G) → length (pick c (grown f a (walk f G a) (walk f G a .generators ++ at a G)) (walk f G a) .generators) ≤ length (under a G)
+    go true l = omega (arith, shorter-few (f K) K, length-append (walk f G a .generators) (at a G), under-counts a G)
+    go false l = omega (arith, under-counts a G)
+
+pub walk-room : (f : Table → Table) (G : Table) (a : ℕ) → length (walk f G a .generators) + length (at a G) ≤ length G
+walk-room f G a = omega (arith, walk-few f G a, under-counts a G, slice-few (λ b. ltb b (suc a)) G)
+
+module _ (n : ℕ) (G : Table) (z : OfSize (suc n) G) (a : ℕ) where
+  pub walk-generators : OfSize n (walk (λ H. slices n H) G a .generators)
+  walk-generators = janet-passed n G z (slices-table n) a .fine
+
+  pub walk-block : OfSize n (walk (λ H. slices n H) G a .block)
+  walk-block u m = janet-passed n G z (slices-table n) a .block .only u m .size
+
+  pub walk-written : OfSize (suc n) (walk (λ H. slices n H) G a .written)
+  walk-written u m = janet-front n G z (slices-table n) a .only u m .size
+
+  -- the block stands at the end of what is written
+  pub walk-end : (R : Table) × (R ++ behind (walk (λ H. slices n H) G a .last) (walk (λ H. slices n H) G a .block) ≡ walk (λ H. slices n H) G a .written)
+  walk-end = janet-passed n G z (slices-table n) a .end
+
+-- ---- front parts
 
 -- What the walk has written is a front part of the result.
 pub walk-part : (n : ℕ) (G : Table) → OfSize (suc n) G → (a : ℕ) → (R : Table) × (walk (λ H. slices n H) G a .written ++ R ≡ slices (suc n) G)

@@ -3,6 +3,7 @@ pub mod BlockLaws
 pub mod CompletedLaws
 pub mod CompletionLaws
 pub mod SliceLaws
+pub mod LimitLaws
 pub mod WalkLaws
 pub mod BufferLaws
 pub mod OperationLaws

@@ -12,7 +12,8 @@
 --   heads-front            the list over the first heads is a front part of the list over more heads
 use mathlib.Core.Path.{_≡_, refl, sym, ap, ap₂, _∙_, subst}
 use mathlib.Core.Bool.{Bool, true, false}
-use mathlib.Core.List.{List, [], _∷_, _++_, map, tail, List·Memᴰ·head, List·Memᴰ·tail, List·Memᴰ·cases-cons, List·Memᴰ·not-nil, List·Memᴰ·append-cases, List·Memᴰ·eq-of-singleton, Memᴰ·append-left, Memᴰ·append-right, Memᴰ·cast, Memᴰ·map, Memᴰ·of-map}
+use mathlib.Core.List.{List, [], _∷_, _++_, tail, List·Memᴰ·head, List·Memᴰ·tail, List·Memᴰ·cases-cons, List·Memᴰ·not-nil, List·Memᴰ·append-cases}
+use mathlib.Core.List.{List·Memᴰ·eq-of-singleton, Memᴰ·append-left, Memᴰ·append-right, Memᴰ·cast, Memᴰ·map, Memᴰ·of-map}
 use mathlib.Core.Logic.{_⊎_, inl, inr, ⊎-elim, by-cases}
 use Prim.Native.Nat.{ℕ, zero, suc, _+_, _≤_, _<_}
 use native.Mathlib.Nat.{not-suc-le-zero, le-of-suc-le-suc, suc-inj}
@@ -22,7 +23,7 @@ use lib.ListN.{length}
 use Rattle.terms.specs.Tests.{pick, keep, keep-in}
 use Rattle.terms.specs.Monomials.{Monomial, Table, _!_, _∈_, rowAt, SameBefore}
 use Rattle.terms.specs.Order.{Precedes, Ascending}
-use Rattle.terms.proofs.MonomialLaws.{before-first, tail-at}
+use Rattle.terms.proofs.MonomialLaws.{before-first}
 use Rattle.terms.proofs.RowsLaws.{member-at}
 use Rattle.terms.proofs.OrderLaws.{precedes-irreflexive, precedes-trans, ascending-tail, all-after, ascending-unique}
 use Rattle.completion.specs.Blocks.{behind, repeated, box}
@@ -59,7 +60,8 @@ ascending-keep f (u ∷ G) a = go (f u) (ascending-keep f G (ascending-tail u G 
 
 -- An ascending list whose rows are in another, with every row there that comes before one of its own, is a front part of it:
 -- the first rows are the same, since each is in the other list and neither precedes itself.
-pub ascending-front : (L M : Table) → Ascending L → Ascending M → ((u : Monomial) → u ∈ L → u ∈ M) → ((u v : Monomial) → u ∈ M → v ∈ L → Precedes u v → u ∈ L) → (R : Table) × (L ++ R ≡ M)
+pub ascending-front : (L M : Table) → Ascending L → Ascending M → ((u : Monomial) → u ∈ L → u ∈ M) →
+    ((u v : Monomial) → u ∈ M → v ∈ L → Precedes u v → u ∈ L) → (R : Table) × (L ++ R ≡ M)
 ascending-front [] M a b s d = (M, refl)
 ascending-front (v ∷ L) [] a b s d = absurd (List·Memᴰ·not-nil (s v (List·Memᴰ·head refl)))
 ascending-front (v ∷ L) (u ∷ M) a b s d =
@@ -67,8 +69,10 @@ ascending-front (v ∷ L) (u ∷ M) a b s d =
     (λ j. absurd (precedes-irreflexive u (precedes-trans (all-after u M b v i) (all-after v L a u j))))
     (List·Memᴰ·cases-cons (d u v (List·Memᴰ·head refl) (List·Memᴰ·head refl) (all-after u M b v i)))) (List·Memᴰ·cases-cons (s v (List·Memᴰ·head refl))) in
     let r = ascending-front L M (ascending-tail v L a) (ascending-tail u M b)
-    (λ w m. ⊎-elim (λ p. absurd (precedes-irreflexive v (subst (λ (x : Monomial). Precedes v x) (p ∙ sym e) (all-after v L a w m)))) (λ i. i) (List·Memᴰ·cases-cons (s w (List·Memᴰ·tail m))))
-    (λ x w m i h. ⊎-elim (λ p. absurd (precedes-irreflexive u (subst (λ (y : Monomial). Precedes u y) (p ∙ e) (all-after u M b x m)))) (λ j. j) (List·Memᴰ·cases-cons (d x w (List·Memᴰ·tail m) (List·Memᴰ·tail i) h))) in
+    (λ w m. ⊎-elim (λ p. absurd (precedes-irreflexive v (subst (λ (x : Monomial). Precedes v x) (p ∙ sym e) (all-after v L a w m)))) (λ i. i)
+    (List·Memᴰ·cases-cons (s w (List·Memᴰ·tail m))))
+    (λ x w m i h. ⊎-elim (λ p. absurd (precedes-irreflexive u (subst (λ (y : Monomial). Precedes u y) (p ∙ e) (all-after u M b x m)))) (λ j. j)
+    (List·Memᴰ·cases-cons (d x w (List·Memᴰ·tail m) (List·Memᴰ·tail i) h))) in
     (r .0, cons-same {l = L ++ r .0} {m = M} e (r .1))
 
 -- ---- first exponents
@@ -165,7 +169,8 @@ box-row [] u m = let e : u ≡ [] = List·Memᴰ·eq-of-singleton m in (ap lengt
 box-row (c ∷ caps) u m =
     let r = repeated-row 0 (suc c) (box caps) u m in
     let h = box-row caps (r .rest) (r .member) in
-    subst (λ (w : Monomial). (length w ≡ suc (length caps)) × ((i : ℕ) → w ! i ≤ (c ∷ caps) ! i)) (r .is) (ap suc (h .0), at (r .head) (r .rest) (omega (arith, r .to)) (h .1))
+    subst (λ (w : Monomial). (length w ≡ suc (length caps)) × ((i : ℕ) → w ! i ≤ (c ∷ caps) ! i)) (r .is)
+    (ap suc (h .0), at (r .head) (r .rest) (omega (arith, r .to)) (h .1))
   where
     at : (a : ℕ) (t : Monomial) → a ≤ c → ((i : ℕ) → t ! i ≤ caps ! i) → (i : ℕ) → (a ∷ t) ! i ≤ (c ∷ caps) ! i
     at a t l f zero = omega arith
@@ -228,7 +233,8 @@ heads-at : {P : ℕ → Type 0} {S : ℕ → Monomial → Type 0} {u : Monomial}
 heads-at h = ap (λ (w : Monomial). w ! 1) (h .is)
 
 -- One block under each of the heads c, c + 1, .. : k heads.
-pub repeat-lists : {P : ℕ → Type 0} {S : ℕ → Monomial → Type 0} {L B : Table} (c k : ℕ) → Lists (Heads P S) L → ((b : ℕ) → P b → b < c) → ((b : ℕ) → c ≤ b → b < c + k → Lists (S b) B) →
+pub repeat-lists : {P : ℕ → Type 0} {S : ℕ → Monomial → Type 0} {L B : Table} (c k : ℕ) → Lists (Heads P S) L → ((b : ℕ) → P b → b < c) →
+    ((b : ℕ) → c ≤ b → b < c + k → Lists (S b) B) →
     Lists (Heads (λ b. P b ⊎ ((c ≤ b) × (b < c + k))) S) (L ++ repeated c k B)
 repeat-lists {P} {S} {L} {B} c k l o f = record {
   only = λ u m. ⊎-elim
@@ -246,7 +252,8 @@ repeat-lists {P} {S} {L} {B} c k l o f = record {
 }
 
 -- One block under head a.
-pub behind-lists : {P : ℕ → Type 0} {S : ℕ → Monomial → Type 0} {L C : Table} (a : ℕ) → Lists (Heads P S) L → ((b : ℕ) → P b → b < a) → Lists (S a) C → Lists (Heads (λ b. P b ⊎ (b ≡ a)) S) (L ++ behind a C)
+pub behind-lists : {P : ℕ → Type 0} {S : ℕ → Monomial → Type 0} {L C : Table} (a : ℕ) → Lists (Heads P S) L → ((b : ℕ) → P b → b < a) → Lists (S a) C →
+    Lists (Heads (λ b. P b ⊎ (b ≡ a)) S) (L ++ behind a C)
 behind-lists {P} {S} {L} {C} a l o c = record {
   only = λ u m. ⊎-elim
       (λ i. heads-as (λ b t h p. inl p) (l .only u i))
@@ -254,7 +261,8 @@ behind-lists {P} {S} {L} {C} a l o c = record {
       (List·Memᴰ·append-cases L m);
   all = λ u h. Memᴰ·cast (sym (h .is)) (⊎-elim
       (λ p. Memᴰ·append-left (behind a C) (l .all (h .head ∷ h .rest) (record { head = h .head; allowed = p; rest = h .rest; has = h .has; is = refl })))
-      (λ p. Memᴰ·append-right L (Memᴰ·cast (ap (λ (b : ℕ). b ∷ h .rest) p) (behind-member a C (h .rest) (c .all (h .rest) (subst (λ (b : ℕ). S b (h .rest)) p (h .has))))))
+      (λ p. Memᴰ·append-right L (Memᴰ·cast (ap (λ (b : ℕ). b ∷ h .rest) p)
+      (behind-member a C (h .rest) (c .all (h .rest) (subst (λ (b : ℕ). S b (h .rest)) p (h .has))))))
       (h .allowed));
   ascends = ascending-append L (behind a C) (l .ascends) (behind-ascending a C (c .ascends))
       (λ u v m i. let h = l .only u m in let r = behind-row a C v i in
@@ -262,8 +270,15 @@ behind-lists {P} {S} {L} {C} a l o c = record {
 }
 
 -- The rows of the first heads are a front part of the rows of more heads.
-pub heads-front : {P Q : ℕ → Type 0} {S : ℕ → Monomial → Type 0} {L M : Table} → ((b : ℕ) → P b → Q b) → ((b c : ℕ) → Q b → P c → b ≤ c → P b) → Lists (Heads P S) L → Lists (Heads Q S) M → (R : Table) × (L ++ R ≡ M)
+pub heads-front : {P Q : ℕ → Type 0} {S : ℕ → Monomial → Type 0} {L M : Table} → ((b : ℕ) → P b → Q b) → ((b c : ℕ) → Q b → P c → b ≤ c → P b) →
+    Lists (Heads P S) L → Lists (Heads Q S) M → (R : Table) × (L ++ R ≡ M)
 heads-front {L = L} {M = M} f g l m = ascending-front L M (l .ascends) (m .ascends)
     (λ u i. m .all u (heads-as (λ b t h p. f b p) (l .only u i)))
     (λ u v i j k. let p = m .only u i in let q = l .only v j in
-    l .all u (record { head = p .head; allowed = g (p .head) (q .head) (p .allowed) (q .allowed) (omega (arith, heads-at p, heads-at q, head-precedes k)); rest = p .rest; has = p .has; is = p .is }))
+    l .all u (record {
+      head = p .head;
+      allowed = g (p .head) (q .head) (p .allowed) (q .allowed) (omega (arith, heads-at p, heads-at q, head-precedes k));
+      rest = p .rest;
+      has = p .has;
+      is = p .is;
+    }))

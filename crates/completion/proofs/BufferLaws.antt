@@ -6,16 +6,16 @@
 --   after-append, -behind, -set, -drop   a block in a buffer: appended, under the next front, copied with one column set, without its first columns
 --   fit-within, fit-beyond, beyond-fit, fit-part   room, and that running out of it is final
 --   walk-fit, walked-fit   a walk that has run out of room has the answer of the whole
-use mathlib.Core.Path.{_≡_, refl, sym, ap, _∙_, subst}
+use mathlib.Core.Path.{_≡_, refl, sym, ap, _∙_}
 use mathlib.Core.Bool.{Bool}
-use mathlib.Core.List.{List, [], _∷_, _++_, map, append-assoc, List·Memᴰ·not-nil, Memᴰ·of-map}
+use mathlib.Core.List.{List, [], _∷_, _++_, map, append-assoc, Memᴰ·of-map}
 use mathlib.Core.Logic.{by-cases}
 use Prim.Native.Nat.{ℕ, zero, suc, _+_, _*_, _-_, _≤_, _<_}
 use native.Mathlib.Decide.{decLe}
 use native.Mathlib.Omega.{arith}
 use lib.ListN.{length, set, drop, length-append, length-map}
 use Rattle.terms.specs.Tests.{pick, tests-le, tests-true, tests-false}
-use Rattle.terms.specs.Monomials.{Monomial, Table, _∈_, OfSize}
+use Rattle.terms.specs.Monomials.{Monomial, Table, OfSize}
 use Rattle.terms.specs.Rows.{flat}
 use Rattle.completion.specs.Blocks.{behind, repeated}
 use Rattle.completion.specs.Slices.{Walk, stepped, walk, slices, after, fit, Walked}
@@ -122,12 +122,14 @@ within-fit room e h = by-cases (decLe e room) (λ l. l) (λ l. absurd (omega (ar
 pub fit-part : (L R : Table) {M : Table} → L ++ R ≡ M → (room from : ℕ) → room < from + length L → fit room (from + length M) ≡ suc room
 fit-part L R {M} e room from h = fit-beyond room (from + length M) (omega (arith, length-append L R, ap length e))
 
-pub walk-fit : (n : ℕ) (G : Table) → OfSize (suc n) G → (room from a : ℕ) → room < from + length (walk (λ H. slices n H) G a .written) → fit room (from + length (slices (suc n) G)) ≡ suc room
+pub walk-fit : (n : ℕ) (G : Table) → OfSize (suc n) G → (room from a : ℕ) → room < from + length (walk (λ H. slices n H) G a .written) →
+    fit room (from + length (slices (suc n) G)) ≡ suc room
 walk-fit n G z room from a h =
     let r = walk-part n G z a in
     fit-part (walk (λ H. slices n H) G a .written) (r .0) (r .1) room from h
 
-pub walked-fit : {n : ℕ} {G : Table} → OfSize (suc n) G → {a : ℕ} {w : Walk} → Walked n G a w → (room from : ℕ) → room < from + length (w .written) → fit room (from + length (slices (suc n) G)) ≡ suc room
+pub walked-fit : {n : ℕ} {G : Table} → OfSize (suc n) G → {a : ℕ} {w : Walk} → Walked n G a w → (room from : ℕ) → room < from + length (w .written) →
+    fit room (from + length (slices (suc n) G)) ≡ suc room
 walked-fit z {w = w} k room from h =
     let r = walked-part z k in
     fit-part (w .written) (r .0) (r .1) room from h

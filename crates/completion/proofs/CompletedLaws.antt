@@ -6,22 +6,21 @@
 --   completed-table        `completed n G` is the completed table of the ideal of G
 --   completed-unique       there is one completed table of an ideal
 --   enters-ideal, completed-ideal, table-ideal, completed-same-ideal   only the ideal counts
-use mathlib.Core.Path.{_≡_, refl, sym, ap, _∙_, subst}
+use mathlib.Core.Path.{_≡_, refl, sym, ap, _∙_}
 use mathlib.Core.Bool.{Bool}
 use mathlib.Core.List.{List, [], _∷_, _++_, List·Memᴰ·head, List·Memᴰ·tail, List·Memᴰ·cases-cons, List·Memᴰ·not-nil}
-use mathlib.Core.Logic.{_⊎_, inl, inr, ⊎-elim, by-cases}
-use Prim.Native.Nat.{ℕ, zero, suc, _+_, _-_, _≤_, _<_, max}
+use mathlib.Core.Logic.{_⊎_, ⊎-elim, by-cases}
+use Prim.Native.Nat.{ℕ, zero, suc, _+_, _-_, _≤_, _<_}
 use native.Mathlib.Nat.{not-suc-le-zero, le-of-suc-le-suc, le-max-left, le-max-right, suc-inj}
-use native.Mathlib.Decide.{decLe, decLt}
+use native.Mathlib.Decide.{decLe}
 use native.Mathlib.Omega.{arith}
-use lib.Dec.{ltb}
-use lib.ListN.{length, getD, take, drop, replicate, length-append, length-drop, length-replicate, List·getD-append}
+use lib.ListN.{length, getD, take, drop, length-append, length-drop, length-replicate, List·getD-append}
 use lib.Seq.{length-take-le, getD-take, getD-drop, getD-append-add, getD-at}
-use Rattle.terms.specs.Tests.{Tests, decide, tests-as, tests-and, tests-not, tests-implies, tests-lt, tests-eq, tests-each, tests-any, keep-in, keep-make}
+use Rattle.terms.specs.Tests.{Tests, tests-as, tests-and, tests-not, tests-implies, tests-lt, tests-eq, tests-each, tests-any, keep-in, keep-make}
 use Rattle.terms.specs.Monomials.{Monomial, Table, _!_, _∈_, OfSize, SameBefore, times}
 use Rattle.terms.specs.Ideal.{Divides, Inside, SameIdeal}
-use Rattle.terms.proofs.MonomialLaws.{beyond, within, positive, three, at-or-other, length-times, times-same, times-other}
-use Rattle.terms.proofs.IdealLaws.{tests-divides, tests-inside, inside-up, same-ideal-sym, same-ideal-refl}
+use Rattle.terms.proofs.MonomialLaws.{within, positive, three, at-or-other, length-times, times-same, times-other}
+use Rattle.terms.proofs.IdealLaws.{tests-divides, tests-inside, inside-up, same-ideal-sym}
 use Rattle.terms.proofs.OrderLaws.{ascending-unique}
 use Rattle.completion.specs.Blocks.{box}
 use Rattle.completion.specs.Completed.{Enters, Completed, CompletedTable, candidate, entersTest, completedTest, joined, largest, completed}
@@ -101,7 +100,14 @@ module _ (n : ℕ) (G : Table) (z : OfSize n G) where
         let k : length c ≡ length u = candidate-size u i g l q e in
         record {
           divides = three (λ j. g ! j ≤ times c i (g ! i) ! j) i
-              (λ j t. omega (arith, times-other c i (g ! i) j (omega arith), candidate-before u i g l j t, h .before j t, h .enters .divides j, times-other v i (h .by) j (omega arith)))
+              (λ j t. omega (
+                arith,
+                times-other c i (g ! i) j (omega arith),
+                candidate-before u i g l j t,
+                h .before j t,
+                h .enters .divides j,
+                times-other v i (h .by) j (omega arith),
+              ))
               (omega (arith, times-same c i (g ! i) q (omega arith)))
               (λ j t. omega (arith, times-other c i (g ! i) j (omega arith), candidate-behind u i g l j t));
           outside = λ o. h .outside (inside-up o (three (λ j. c ! j ≤ v ! j) i
@@ -112,7 +118,8 @@ module _ (n : ℕ) (G : Table) (z : OfSize n G) where
 
     pub tests-enters : Tests (entersTest G u i) (Enters n G u i)
     unfolding entersTest
-    tests-enters = tests-as (tests-any G (λ (g : Monomial) m. tests-and (tests-divides g (times (candidate u i g) i (g ! i))) (λ d. tests-not (tests-inside G (candidate u i g)))))
+    tests-enters = tests-as (tests-any G (λ (g : Monomial) m. tests-and (tests-divides g (times (candidate u i g) i (g ! i)))
+        (λ d. tests-not (tests-inside G (candidate u i g)))))
         (λ r. shows-enters (r .0) (r .1) (record { divides = r .2 .0; outside = r .2 .1 }))
         (λ (h : Enters n G u i). let s = enters-shows h in (h .enters .row, h .enters .member, (s .divides, s .outside)))
 
@@ -176,7 +183,8 @@ completed-table n G z =
     let b : Table = box (largest n G) in
     record {
       only = λ u m. tests-completed n G z u .sound (keep-in f b u m .1);
-      all = λ u c. keep-make f b u (box-member (largest n G) u (c .size ∙ sym (largest-size n G z)) (completed-within n G u c)) (tests-completed n G z u .complete c);
+      all = λ u c. keep-make f b u (box-member (largest n G) u (c .size ∙ sym (largest-size n G z)) (completed-within n G u c))
+          (tests-completed n G z u .complete c);
       ascends = ascending-keep f b (box-ascending (largest n G));
     }
 

@@ -10,11 +10,11 @@
 --   completion-size, completion-distinct   its rows have n exponents, and no row occurs twice
 --   completion-one, completion-none   a monomial that a given row divides has exactly one divisor in H by row number; one that none divides has none
 --   least                  every complete table of the ideal has the rows of H
-use mathlib.Core.Path.{_≡_, refl, sym, ap, _∙_, subst}
-use mathlib.Core.List.{List, [], _∷_, Memᴰ·cast}
-use mathlib.Core.Logic.{_⊎_, inl, inr, ⊎-elim, by-cases}
+use mathlib.Core.Path.{_≡_, refl, sym, ap, _∙_}
+use mathlib.Core.List.{Memᴰ·cast}
+use mathlib.Core.Logic.{by-cases}
 use Prim.Native.Nat.{ℕ, zero, suc, _+_, _-_, _≤_, _<_}
-use native.Mathlib.Nat.{not-suc-le-zero, le-of-suc-le-suc}
+use native.Mathlib.Nat.{not-suc-le-zero}
 use native.Mathlib.Decide.{decLe, decLt}
 use native.Mathlib.Omega.{arith}
 use lib.ListN.{length, set, length-set}
@@ -22,7 +22,8 @@ use lib.Seq.{getD-set-same, getD-set-other}
 use Rattle.terms.specs.Tests.{decide}
 use Rattle.terms.specs.Monomials.{Monomial, Table, _!_, _∈_, rowAt, OfSize, SameBefore, times}
 use Rattle.terms.specs.Ideal.{Divides, Inside, SameIdeal}
-use Rattle.terms.proofs.MonomialLaws.{within, positive, three, at-or-other, below-suc, before-zero, before-suc, same-all, length-times, times-same, times-other, times-above}
+use Rattle.terms.proofs.MonomialLaws.{within, positive, three, at-or-other, below-suc, before-zero, before-suc, same-all, length-times, times-same}
+use Rattle.terms.proofs.MonomialLaws.{times-other, times-above}
 use Rattle.terms.proofs.IdealLaws.{inside-up, inside?}
 use Rattle.division.specs.Cones.{DivisorAt, Distinct, Covers}
 use Rattle.division.specs.Janet.{Multiplicative, JanetDivisor, Complete}
@@ -130,7 +131,8 @@ module _ (n : ℕ) (G : Table) (z : OfSize n G) where
   lowered-top u i size p g w c s =
       let here : lowered u i ! i ≡ u ! i - 1 = lowered-here u i p in
       by-cases (decLe (w ! i) (lowered u i ! i)) (λ k. k) (λ big.
-      absurd (g (enters-down n G (c .each i (omega arith)) (λ j t. s j t ∙ lowered-before u i j t) (positive u i p) (omega (arith, within u i p)) p (omega arith))))
+      absurd (g (enters-down n G (c .each i (omega arith)) (λ j t. s j t ∙ lowered-before u i j t) (positive u i p) (omega (arith, within u i p)) p
+      (omega arith))))
 
   -- m comes from q by lowering variables before k: it is in the ideal, before i it is as a row of the completed table, and what was lowered is at the
   -- top of its group
@@ -202,7 +204,11 @@ module _ (n : ℕ) (G : Table) (z : OfSize n G) where
     completion-divisor q e h =
         let r = reach e h (suc n) in
         let m : Monomial = r .0 in
-        let c : Completed n G m = record { size = r .1 .size; inside = r .1 .inside; each = λ i p. r .1 .each i (omega (arith, within m i p, r .1 .size)) p } in (
+        let c : Completed n G m = record {
+          size = r .1 .size;
+          inside = r .1 .inside;
+          each = λ i p. r .1 .each i (omega (arith, within m i p, r .1 .size)) p;
+        } in (
           m,
           record {
             member = is .all m c;
@@ -230,7 +236,8 @@ module _ (n : ℕ) (G : Table) (z : OfSize n G) where
     -- ---- exactly one divisor
 
     -- the divisor of q by its row number: there is one, and no other
-    pub completion-one : (q : Monomial) → length q ≡ n → Inside G q → (r : ℕ) × DivisorAt Multiplicative H r q × ((s : ℕ) → DivisorAt Multiplicative H s q → r ≡ s)
+    pub completion-one : (q : Monomial) → length q ≡ n → Inside G q →
+        (r : ℕ) × DivisorAt Multiplicative H r q × ((s : ℕ) → DivisorAt Multiplicative H s q → r ≡ s)
     completion-one q e h =
         let d = completion-divisor q e h in
         let r = divisor-at (d .1) in

@@ -3,8 +3,8 @@
 --   example-A ..           the completed table computes to the paper's
 --   example-A-table ..     that table is rule 5's, in the paper's words
 --   example-J-..           every result that the promise allows for D's rows with 6 and with 5 bytes of room
-use mathlib.Core.Path.{_≡_, refl, sym, ap, _∙_, subst}
-use mathlib.Core.List.{List, [], _∷_, _++_}
+use mathlib.Core.Path.{_≡_, refl, ap, _∙_, subst}
+use mathlib.Core.List.{List, [], _∷_}
 use Prim.Native.Nat.{ℕ}
 use lib.Dec.{T, eqb}
 use lib.ListN.{length}
@@ -117,10 +117,12 @@ answer-five : completeAnswer 2 bytesD 5 ≡ Refused 8
 unfolding completeAnswer completed rows roomFor
 answer-five = refl
 
-pub example-J-accepted : (buffer : List ℕ) {answer : CompleteAnswer} {after : List ℕ} → length buffer ≡ 6 → CompletePromise 2 bytesD buffer answer after → answer ≡ Rows 3
+pub example-J-accepted : (buffer : List ℕ) {answer : CompleteAnswer} {after : List ℕ} → length buffer ≡ 6 → CompletePromise 2 bytesD buffer answer after →
+    answer ≡ Rows 3
 example-J-accepted buffer e p = p .answers ∙ ap (completeAnswer 2 bytesD) e ∙ answer-six
 
-pub example-J-refused : (buffer : List ℕ) {answer : CompleteAnswer} {after : List ℕ} → length buffer ≡ 5 → CompletePromise 2 bytesD buffer answer after → answer ≡ Refused 8
+pub example-J-refused : (buffer : List ℕ) {answer : CompleteAnswer} {after : List ℕ} → length buffer ≡ 5 → CompletePromise 2 bytesD buffer answer after →
+    answer ≡ Refused 8
 example-J-refused buffer e p = p .answers ∙ ap (completeAnswer 2 bytesD) e ∙ answer-five
 
 -- what six lent bytes become, and what five stay

@@ -9,11 +9,11 @@
 --   completed-limited, limited-completed   rule 5's monomials are those of Janet's limit
 --   capLimit caps p        the cap of the variable behind the exponents p
 --   Capped n caps G u      u is in the ideal of G and divides caps; capped-limited, limited-capped: those are the monomials of that limit
-use mathlib.Core.Path.{_≡_, refl, sym, ap, subst}
-use mathlib.Core.List.{List, [], _∷_, tail}
+use mathlib.Core.Path.{_≡_, sym, ap, subst}
+use mathlib.Core.List.{[], _∷_, tail}
 use mathlib.Core.Logic.{_⊎_, inl, inr, ⊎-elim, by-cases}
 use Prim.Native.Nat.{ℕ, zero, suc, _≤_, _<_}
-use native.Mathlib.Nat.{not-suc-le-zero, suc-inj, le-of-suc-le-suc}
+use native.Mathlib.Nat.{not-suc-le-zero, suc-inj}
 use native.Mathlib.Decide.{decLt}
 use native.Mathlib.Omega.{arith}
 use lib.ListN.{length, take}
@@ -22,9 +22,10 @@ use Rattle.terms.specs.Monomials.{Monomial, Table, _!_, OfSize}
 use Rattle.terms.specs.Ideal.{Divides, Inside, SameIdeal}
 use Rattle.terms.proofs.MonomialLaws.{beyond, positive}
 use Rattle.completion.specs.Completed.{Completed}
-use Rattle.completion.specs.Slices.{slice, below, under, heads}
+use Rattle.completion.specs.Slices.{slice, under, heads}
 use Rattle.completion.proofs.BlockLaws.{Lists, lists-as, Heads, cons-of}
-use Rattle.completion.proofs.SliceLaws.{below-size, slice-into, slice-back, Beyond, completed-slice, slice-completed, grows-beyond, beyond-grows, heads-above, lastGrowing, last-growing}
+use Rattle.completion.proofs.SliceLaws.{below-size, slice-into, slice-back, Beyond, completed-slice, slice-completed, grows-beyond}
+use Rattle.completion.proofs.SliceLaws.{beyond-grows, heads-above, lastGrowing, last-growing}
 
 -- ---- any limit
 
@@ -36,17 +37,20 @@ pub record Limited (n : ℕ) (limit : Monomial → ℕ) (G : Table) (u : Monomia
 pub limited-ideal : {n : ℕ} {limit : Monomial → ℕ} {G H : Table} {u : Monomial} → SameIdeal n G H → Limited n limit G u → Limited n limit H u
 limited-ideal {u = u} s l = record { size = l .size; inside = s .into u (l .size) (l .inside); each = l .each }
 
-pub limited-slice : {n : ℕ} {limit : Monomial → ℕ} {G : Table} {a : ℕ} {t : Monomial} → Limited (suc n) limit G (a ∷ t) → (a ≤ limit []) × Limited n (λ p. limit (a ∷ p)) (under a G) t
+pub limited-slice : {n : ℕ} {limit : Monomial → ℕ} {G : Table} {a : ℕ} {t : Monomial} → Limited (suc n) limit G (a ∷ t) →
+    (a ≤ limit []) × Limited n (λ p. limit (a ∷ p)) (under a G) t
 limited-slice l = (l .each 0 (omega arith), record { size = suc-inj (l .size); inside = slice-into (l .inside); each = λ i h. l .each (suc i) (omega arith) })
 
-pub slice-limited : {n : ℕ} {limit : Monomial → ℕ} {G : Table} {a : ℕ} {t : Monomial} → a ≤ limit [] → Limited n (λ p. limit (a ∷ p)) (under a G) t → Limited (suc n) limit G (a ∷ t)
+pub slice-limited : {n : ℕ} {limit : Monomial → ℕ} {G : Table} {a : ℕ} {t : Monomial} → a ≤ limit [] → Limited n (λ p. limit (a ∷ p)) (under a G) t →
+    Limited (suc n) limit G (a ∷ t)
 slice-limited {n} {limit} {G} {a} {t} h l = record { size = ap suc (l .size); inside = slice-back (l .inside); each = each }
   where
     each : (i : ℕ) → i < suc n → (a ∷ t) ! suc i ≤ limit (take i (a ∷ t))
     each zero j = h
     each (suc i) j = l .each i (omega arith)
 
-pub limited-heads : {n : ℕ} {limit : Monomial → ℕ} {G H : Table} → Lists (Heads (λ b. b ≤ limit []) (λ b t. Limited n (λ p. limit (b ∷ p)) (under b G) t)) H → Lists (Limited (suc n) limit G) H
+pub limited-heads : {n : ℕ} {limit : Monomial → ℕ} {G H : Table} →
+    Lists (Heads (λ b. b ≤ limit []) (λ b t. Limited n (λ p. limit (b ∷ p)) (under b G) t)) H → Lists (Limited (suc n) limit G) H
 limited-heads {n} {limit} {G} l = lists-as
     (λ u h. subst (λ (w : Monomial). Limited (suc n) limit G w) (h .is) (slice-limited (h .allowed) (h .has)))
     (λ u h. let e : u ! 1 ∷ tail u ≡ u = cons-of u (h .size) in
@@ -79,7 +83,11 @@ completed-limited (suc n) G z (a ∷ t) c =
 
 pub limited-completed : (n : ℕ) (G : Table) → OfSize n G → (u : Monomial) → Limited n (janetLimit G) G u → Completed n G u
 unfolding janetLimit
-limited-completed zero G z u l = record { size = l .size; inside = l .inside; each = λ i p. absurd (omega (arith, beyond u i (omega (arith, l .size, positive u i p)))) }
+limited-completed zero G z u l = record {
+  size = l .size;
+  inside = l .inside;
+  each = λ i p. absurd (omega (arith, beyond u i (omega (arith, l .size, positive u i p))));
+}
 limited-completed (suc n) G z [] l = absurd (omega (arith, l .size))
 limited-completed (suc n) G z (a ∷ t) l =
     let r = limited-slice l in

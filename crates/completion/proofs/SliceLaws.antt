@@ -18,24 +18,25 @@
 --
 -- Law 1, only the ideal counts, is in CompletedLaws.
 use mathlib.Core.Path.{_≡_, refl, sym, ap, _∙_, subst}
-use mathlib.Core.Bool.{Bool, true, false, not}
-use mathlib.Core.List.{List, [], _∷_, _++_, map, tail, List·Memᴰ·head, List·Memᴰ·cases-cons, List·Memᴰ·not-nil, List·Memᴰ·append-cases, Memᴰ·append-left, Memᴰ·append-right, Memᴰ·map, Memᴰ·of-map}
+use mathlib.Core.Bool.{Bool, true, false}
+use mathlib.Core.List.{[], _∷_, _++_, tail, List·Memᴰ·head, List·Memᴰ·cases-cons, List·Memᴰ·not-nil, List·Memᴰ·append-cases, Memᴰ·append-left}
+use mathlib.Core.List.{Memᴰ·append-right, Memᴰ·map, Memᴰ·of-map}
 use mathlib.Core.Logic.{_⊎_, inl, inr, ⊎-elim, by-cases}
 use Prim.Native.Nat.{ℕ, zero, suc, _+_, _-_, _≤_, _<_}
 use native.Mathlib.Nat.{not-suc-le-zero, suc-inj}
 use native.Mathlib.Decide.{decLe, decLt}
 use native.Mathlib.Omega.{arith}
 use lib.Dec.{T, ltb, eqb}
-use lib.ListN.{length, length-append}
-use Rattle.terms.specs.Tests.{Tests, pick, keep, decide, tests-lt, tests-eq, tests-not, tests-any, tests-as, keep-in, keep-make}
+use lib.ListN.{length}
+use Rattle.terms.specs.Tests.{Tests, pick, keep, tests-lt, tests-eq, tests-not, tests-any, tests-as, keep-in, keep-make}
 use Rattle.terms.specs.Monomials.{Monomial, Table, _!_, _∈_, OfSize, SameBefore, times}
 use Rattle.terms.specs.Ideal.{Divides, Inside, SameIdeal}
 use Rattle.terms.proofs.MonomialLaws.{before-first}
-use Rattle.terms.proofs.IdealLaws.{tests-inside, inside?, inside-up, inside-none, divides-refl, divides-trans, same-ideal-refl, same-ideal-sym}
+use Rattle.terms.proofs.IdealLaws.{tests-inside, inside?, inside-up, inside-none, divides-refl, same-ideal-sym}
 use Rattle.completion.specs.Completed.{Enters, Completed, CompletedTable}
-use Rattle.completion.specs.Blocks.{behind, repeated}
 use Rattle.completion.specs.Slices.{head, slice, at, below, under, front, heads, fresh, stepped}
-use Rattle.completion.proofs.BlockLaws.{Lists, lists-as, lists-none, lists-one, Heads, heads-as, heads-front, repeat-lists, behind-lists, cons-of, cons-same}
+use Rattle.completion.proofs.BlockLaws.{Lists, lists-as, lists-none, lists-one, Heads, heads-as, heads-front, repeat-lists, behind-lists}
+use Rattle.completion.proofs.BlockLaws.{cons-of, cons-same}
 use Rattle.completion.proofs.CompletedLaws.{completed-ideal, table-ideal}
 
 -- the completed table as a list of the monomials with a property, and back
@@ -128,7 +129,8 @@ below-none G h = not-suc-le-zero (below-use 0 h .head)
 -- ---- law 2: the ideal by slices
 
 pub slice-into : {a : ℕ} {G : Table} {q : Monomial} → Inside G (a ∷ q) → Inside (under a G) q
-slice-into {a} {q = q} h = below-make (suc a) (record { row = h .row; member = h .member; head = omega (arith, h .divides 1); divides = divides-tail (h .row) a q (h .divides) })
+slice-into {a} {q = q} h = below-make (suc a)
+    (record { row = h .row; member = h .member; head = omega (arith, h .divides 1); divides = divides-tail (h .row) a q (h .divides) })
 
 pub slice-back : {a : ℕ} {G : Table} {q : Monomial} → Inside (under a G) q → Inside G (a ∷ q)
 slice-back {a} {q = q} h =
@@ -157,7 +159,8 @@ module _ {n : ℕ} {G : Table} {a : ℕ} {t : Monomial} where
   enters-slice : {i : ℕ} → Enters (suc n) G (a ∷ t) (suc (suc i)) → Enters n (under a G) t (suc i)
   enters-slice {i} h = go (h .from) (h .size) (h .outside) (h .before) (h .less) (h .enters)
     where
-      go : (v : Monomial) → length v ≡ suc n → (Inside G v → ⊥) → SameBefore (suc (suc i)) v (a ∷ t) → v ! suc (suc i) + 1 ≡ t ! suc i → Inside G (times v (suc (suc i)) (h .by)) → Enters n (under a G) t (suc i)
+      go : (v : Monomial) → length v ≡ suc n → (Inside G v → ⊥) → SameBefore (suc (suc i)) v (a ∷ t) → v ! suc (suc i) + 1 ≡ t ! suc i →
+          Inside G (times v (suc (suc i)) (h .by)) → Enters n (under a G) t (suc i)
       go [] z o b l k = absurd (omega arith)
       go (x ∷ v) z o b l k =
           let e : x ≡ a = b 1 (omega arith) in
@@ -193,7 +196,8 @@ module _ {n : ℕ} {G : Table} {a : ℕ} {t : Monomial} where
           record {
             row = k .row;
             member = k .member;
-            outside = λ s. o (slice-back (inside-up (subst (λ (b : ℕ). Inside (below b G) (tail (k .row))) (sym e) s) (divides-tail (k .row) (x + h .by) v (k .divides))));
+            outside = λ s. o (slice-back (inside-up (subst (λ (b : ℕ). Inside (below b G) (tail (k .row))) (sym e) s)
+                (divides-tail (k .row) (x + h .by) v (k .divides))));
           }
 
   first-enters : OfSize (suc n) G → 0 < a → Beyond a G → Enters (suc n) G (a ∷ t) 1
@@ -282,7 +286,11 @@ head-above a G g m o = by-cases (decLt (g ! 1) a) (λ l. absurd (o (below-row a 
 
 -- Among the rows whose tails divide that of g, one of the least head grows.
 grows-among : (a : ℕ) (G : Table) (fuel : ℕ) (g : Monomial) → g ∈ G → g ! 1 ≤ fuel → (Inside (below a G) (tail g) → ⊥) → (b : ℕ) × (a ≤ b) × Grows b G
-grows-among a G zero g m f o = (g ! 1, head-above a G g m o, record { row = g; member = m; head = refl; outside = λ k. omega (arith, below-use (g ! 1) k .head) })
+grows-among a G zero g m f o = (
+  g ! 1,
+  head-above a G g m o,
+  record { row = g; member = m; head = refl; outside = λ k. omega (arith, below-use (g ! 1) k .head) },
+)
 grows-among a G (suc fuel) g m f o = by-cases (inside? (below (g ! 1) G) (tail g))
     (λ k. let s = below-use (g ! 1) k in
     grows-among a G fuel (s .row) (s .member) (omega (arith, s .head)) (λ h. o (inside-up h (s .divides))))
@@ -323,7 +331,8 @@ module _ {n : ℕ} (a : ℕ) {sub : Table} (G : Table) (s : SameIdeal n sub (bel
       split : (q : Monomial) → length q ≡ n → Slice (λ b. b < suc a) G q → Inside (sub ++ at a G) q
       split q e k = by-cases (decLt (k .row ! 1) a)
           (λ l. inside-left (at a G) (s .back q e (below-make a (record { row = k .row; member = k .member; head = l; divides = k .divides }))))
-          (λ l. inside-right sub (slice-make (λ b. tests-eq b a) (record { row = k .row; member = k .member; head = omega (arith, k .head); divides = k .divides })))
+          (λ l. inside-right sub (slice-make (λ b. tests-eq b a)
+          (record { row = k .row; member = k .member; head = omega (arith, k .head); divides = k .divides })))
 
 -- ---- law 5: one step
 -- Stated for any S that the ideal settles, so that other completions go the same way.
@@ -368,9 +377,11 @@ module _ {n : ℕ} {S : Table → Monomial → Type 0} (y : Settled n S) (G : Ta
           let x : a ≡ 0 = ⊎-elim (λ r. omega (arith, p .1)) (λ r. absurd (omega (arith, r .0, p .1))) (k .real) in
           absurd (omega (arith, below-use a q .head)))
 
-  pub upto-grows : {L B C : Table} → Lists (Upto S G a last) L → Lists (S (below a G)) B → Lists (S (under a G)) C → Lists (Upto S G (suc a) a) (stepped L last B a C)
+  pub upto-grows : {L B C : Table} → Lists (Upto S G a last) L → Lists (S (below a G)) B → Lists (S (under a G)) C →
+      Lists (Upto S G (suc a) a) (stepped L last B a C)
   upto-grows {L} {B} {C} l b c = lists-as (λ u h. heads-as after h) (λ u h. heads-as before h)
-      (behind-lists a (repeat-lists (suc last) (a - suc last) l (λ x p. omega (arith, p .1)) (λ x h i. moves-lists y (below a G) (under x G) (quiet x h (omega arith)) b)) first c)
+      (behind-lists a (repeat-lists (suc last) (a - suc last) l (λ x p. omega (arith, p .1))
+      (λ x h i. moves-lists y (below a G) (under x G) (quiet x h (omega arith)) b)) first c)
     where
       -- between the last growing head and a the slices have one ideal
       quiet : (x : ℕ) → last < x → x < a → SameIdeal n (below a G) (under x G)
@@ -422,7 +433,12 @@ front-grows {a} {c} {G} g =
     (l, record { row = g .row; member = r .0; head = g .head; outside = λ h. g .outside (front-back a c G (omega arith) h) })
 
 grows-front : {a c : ℕ} {G : Table} → c < a → Grows c G → Grows c (front a G)
-grows-front {a} {c} {G} l g = record { row = g .row; member = front-member a G (g .row) (g .member) (omega (arith, g .head)); head = g .head; outside = λ h. g .outside (front-into a c G h) }
+grows-front {a} {c} {G} l g = record {
+  row = g .row;
+  member = front-member a G (g .row) (g .member) (omega (arith, g .head));
+  head = g .head;
+  outside = λ h. g .outside (front-into a c G h);
+}
 
 pub front-all : (n a : ℕ) (G : Table) → ((u : Monomial) → u ∈ G → u ! 1 < a) → SameIdeal n (front a G) G
 front-all n a G h = record {
@@ -495,18 +511,25 @@ last-growing G (suc a) = go (fresh (below a G) (at a G)) (tests-grows a G) (last
     go false t h = last-stays (t .complete) h
 
 -- What is written at any time is a front part of the completed table, so running out of room is final.
-pub front-part-of : (n : ℕ) (G : Table) → OfSize (suc n) G → (a b : ℕ) {L M : Table} → a ≤ b → CompletedTable (suc n) (front a G) L → CompletedTable (suc n) (front b G) M → (R : Table) × (L ++ R ≡ M)
+pub front-part-of : (n : ℕ) (G : Table) → OfSize (suc n) G → (a b : ℕ) {L M : Table} → a ≤ b → CompletedTable (suc n) (front a G) L →
+    CompletedTable (suc n) (front b G) M → (R : Table) × (L ++ R ≡ M)
 front-part-of n G z a b l t m =
     let j = last-growing G a in
     let k = last-growing G b in
     heads-front
-    (λ x p. (omega (arith, p .0), ⊎-elim (λ e. omega (arith, p .1)) (λ r. omega (arith, p .1, k .largest (lastGrowing G a) (omega (arith, r .0)) (r .1))) (j .real)))
+    (λ x p. (
+      omega (arith, p .0),
+      ⊎-elim (λ e. omega (arith, p .1)) (λ r. omega (arith, p .1, k .largest (lastGrowing G a) (omega (arith, r .0)) (r .1)))
+          (j .real),
+    ))
     (λ x c q p h. (omega (arith, p .0), omega (arith, p .1)))
     (table-front n G z j t) (table-front n G z k m)
 
-pub front-part : (n : ℕ) (G : Table) → OfSize (suc n) G → (a : ℕ) {L M : Table} → CompletedTable (suc n) (front a G) L → CompletedTable (suc n) G M → (R : Table) × (L ++ R ≡ M)
+pub front-part : (n : ℕ) (G : Table) → OfSize (suc n) G → (a : ℕ) {L M : Table} → CompletedTable (suc n) (front a G) L → CompletedTable (suc n) G M →
+    (R : Table) × (L ++ R ≡ M)
 front-part n G z a l m =
-    front-part-of n G z a (a + heads G) (omega arith) l (table-ideal (same-ideal-sym (front-all (suc n) (a + heads G) G (λ u i. omega (arith, heads-above G u i)))) m)
+    front-part-of n G z a (a + heads G) (omega arith) l
+    (table-ideal (same-ideal-sym (front-all (suc n) (a + heads G) G (λ u i. omega (arith, heads-above G u i)))) m)
 
 -- ---- law 7: one variable, and none
 

@@ -15,7 +15,7 @@
 --   walked-start, -stays, -grows, -step, -done   the walk with any generators of the ideal, as code keeps it
 use mathlib.Core.Path.{_≡_, refl, sym, ap, _∙_, subst}
 use mathlib.Core.Bool.{Bool, true, false}
-use mathlib.Core.List.{List, [], _∷_, _++_, map, tail, List·Memᴰ·head, List·Memᴰ·not-nil, List·Memᴰ·append-cases}
+use mathlib.Core.List.{[], _∷_, _++_, map, tail, List·Memᴰ·head, List·Memᴰ·not-nil, List·Memᴰ·append-cases}
 use mathlib.Core.Logic.{_⊎_, ⊎-elim}
 use Prim.Native.Nat.{ℕ, zero, suc, _+_, _-_, _≤_, _<_}
 use native.Mathlib.Nat.{not-suc-le-zero}
@@ -28,11 +28,14 @@ use Rattle.terms.specs.Ideal.{SameIdeal}
 use Rattle.terms.proofs.IdealLaws.{inside-none, same-ideal-refl, same-ideal-sym, same-ideal-trans}
 use Rattle.completion.specs.Blocks.{behind, repeated}
 use Rattle.completion.specs.Completed.{Completed, CompletedTable, completed}
-use Rattle.completion.specs.Slices.{slice, at, below, under, front, heads, fresh, Walk, started, shorter, stepped, grown, step, walk, slices, Walked}
+use Rattle.completion.specs.Slices.{slice, at, below, under, front, heads, fresh, Walk, started, shorter, stepped, grown, step, walk, slices}
+use Rattle.completion.specs.Slices.{Walked}
 use Rattle.completion.proofs.BlockLaws.{Lists, lists-none}
 use Rattle.completion.proofs.CompletedLaws.{completed-table, completed-same-ideal}
 use Rattle.completion.proofs.CompletionLaws.{completion-ideal}
-use Rattle.completion.proofs.SliceLaws.{table-lists, lists-table, at-size, below-none, Grows, still-ideal, tests-grows-by, generates-under, Settled, moves-lists, completed-settled, Last, last-start, last-stays, last-grows, Upto, upto-stays, upto-grows, front-table, finish, front-part, heads-above, empty, no-variables, one-variable, Least}
+use Rattle.completion.proofs.SliceLaws.{table-lists, lists-table, at-size, below-none, Grows, still-ideal, tests-grows-by, generates-under}
+use Rattle.completion.proofs.SliceLaws.{Settled, moves-lists, completed-settled, Last, last-start, last-stays, last-grows, Upto, upto-stays}
+use Rattle.completion.proofs.SliceLaws.{upto-grows, front-table, finish, front-part, heads-above, empty, no-variables, one-variable, Least}
 
 -- ---- the walk over the heads
 
@@ -43,7 +46,8 @@ pub record Family (n : ℕ) (S : Table → Monomial → Type 0) (Ok : Table → 
   pub made : (G K : Table) → Ok G → Lists (S G) K → Ok K
   pub generates : (G K : Table) → Ok G → Lists (S G) K → SameIdeal n G K
 
-module _ {n : ℕ} {S : Table → Monomial → Type 0} {Ok : Table → Type 0} (y : Family n S Ok) (G : Table) (z : OfSize (suc n) G) (ok : (a : ℕ) → Ok (at a G)) (f : Table → Table) (rec : (H : Table) → Ok H → Lists (S H) (f H)) where
+module _ {n : ℕ} {S : Table → Monomial → Type 0} {Ok : Table → Type 0} (y : Family n S Ok) (G : Table) (z : OfSize (suc n) G) (ok : (a : ℕ) → Ok (at a G))
+    (f : Table → Table) (rec : (H : Table) → Ok H → Lists (S H) (f H)) where
   pub record Passed (a : ℕ) (w : Walk) : Type 0 where
     pub written : Lists (Upto S G a (w .last)) (w .written)
     pub block : Lists (S (below a G)) (w .block)
@@ -175,7 +179,8 @@ module _ (f : Table → Table) (G : Table) (a : ℕ) where
 -- ---- how many rows the walk keeps
 
 -- of two slices that no head shares, within a third
-slices-within : (f g h : ℕ → Bool) (G : Table) → ((b : ℕ) → T (f b) → T (h b)) → ((b : ℕ) → T (g b) → T (h b)) → ((b : ℕ) → T (f b) → T (g b) → ⊥) → length (slice f G) + length (slice g G) ≤ length (slice h G)
+slices-within : (f g h : ℕ → Bool) (G : Table) → ((b : ℕ) → T (f b) → T (h b)) → ((b : ℕ) → T (g b) → T (h b)) → ((b : ℕ) → T (f b) → T (g b) → ⊥) →
+    length (slice f G) + length (slice g G) ≤ length (slice h G)
 unfolding slice
 slices-within f g h [] p q r = omega arith
 slices-within f g h (u ∷ G) p q r = go (f (u ! 1)) (g (u ! 1)) (h (u ! 1)) (p (u ! 1)) (q (u ! 1)) (r (u ! 1)) (slices-within f g h G p q r)
@@ -183,7 +188,8 @@ slices-within f g h (u ∷ G) p q r = go (f (u ! 1)) (g (u ! 1)) (h (u ! 1)) (p 
     count : (ℕ → Bool) → Bool → ℕ
     count k c = length (map tail (pick c (u ∷ keep (λ v. k (v ! 1)) G) (keep (λ v. k (v ! 1)) G)))
 
-    go : (x y z : Bool) → (T x → T z) → (T y → T z) → (T x → T y → ⊥) → length (slice f G) + length (slice g G) ≤ length (slice h G) → count f x + count g y ≤ count h z
+    go : (x y z : Bool) → (T x → T z) → (T y → T z) → (T x → T y → ⊥) → length (slice f G) + length (slice g G) ≤ length (slice h G) →
+        count f x + count g y ≤ count h z
     go true true z i j k l = absurd (k tt tt)
     go true false true i j k l = omega arith
     go true false false i j k l = absurd (i tt)
@@ -225,7 +231,8 @@ walk-few f G (suc a) = go (fresh (walk f G a .generators) (at a G)) (walk-few f 
     K : Table
     K = walk f G a .generators ++ at a G
 
-    go : (c : Bool) → length (walk f G a .generators) ≤ length (below a G) → length (pick c (grown f a (walk f G a) (walk f G a .generators ++ at a G)) (walk f G a) .generators) ≤ length (under a G)
+    go : (c : Bool) → length (walk f G a .generators) ≤ length (below a G) →
+        length (pick c (grown f a (walk f G a) (walk f G a .generators ++ at a G)) (walk f G a) .generators) ≤ length (under a G)
     go true l = omega (arith, shorter-few (f K) K, length-append (walk f G a .generators) (at a G), under-counts a G)
     go false l = omega (arith, under-counts a G)
 
@@ -277,12 +284,10 @@ module _ {n : ℕ} {G : Table} (z : OfSize (suc n) G) {a : ℕ} {w : Walk} (h : 
   model-ideal = janet-passed n G z (slices-table n) a .ideal
 
   model-stays : (Grows a G → ⊥) → walk (λ H. slices n H) G (suc a) ≡ model
-  unfolding walk step
-  model-stays g = ap (λ (c : Bool). pick c (grown (λ H. slices n H) a model (model .generators ++ at a G)) model) (sym (tests-false (tests-grows-by a G model-ideal z) g))
+  model-stays g = walk-stays (λ H. slices n H) G a (sym (tests-false (tests-grows-by a G model-ideal z) g))
 
   model-grows : Grows a G → walk (λ H. slices n H) G (suc a) ≡ grown (λ H. slices n H) a model (model .generators ++ at a G)
-  unfolding walk step
-  model-grows g = ap (λ (c : Bool). pick c (grown (λ H. slices n H) a model (model .generators ++ at a G)) model) (sym (tests-true (tests-grows-by a G model-ideal z) g))
+  model-grows g = walk-grows (λ H. slices n H) G a (sym (tests-true (tests-grows-by a G model-ideal z) g))
 
   -- at a head that does not grow nothing changes
   pub walked-stays : fresh (w .generators) (at a G) ≡ false → Walked n G (suc a) w
@@ -298,7 +303,8 @@ module _ {n : ℕ} {G : Table} (z : OfSize (suc n) G) {a : ℕ} {w : Walk} (h : 
       }
 
   -- At a growing head: K is whatever generates the ideal of the generators and the tails of head a, N whatever is kept of it.
-  pub walked-grows : (K N : Table) → fresh (w .generators) (at a G) ≡ true → OfSize n K → SameIdeal n K (w .generators ++ at a G) → OfSize n N → SameIdeal n N K →
+  pub walked-grows : (K N : Table) → fresh (w .generators) (at a G) ≡ true → OfSize n K → SameIdeal n K (w .generators ++ at a G) → OfSize n N →
+      SameIdeal n N K →
       Walked n G (suc a) (record { written = stepped (w .written) (w .last) (w .block) a (slices n K); block = slices n K; generators = N; last = a })
   unfolding grown
   walked-grows K N e k s l t =
@@ -334,7 +340,8 @@ module _ {n : ℕ} {G : Table} (z : OfSize (suc n) G) {a : ℕ} {w : Walk} (h : 
       go : (c : Bool) → fresh (w .generators) (at a G) ≡ c → Walked n G (suc a) (pick c (grown (λ H. slices n H) a w K) w)
       go true e = walked-grows K (shorter (slices n K) K) e size (same-ideal-refl n K)
           (either (OfSize n) (ltb (length (slices n K)) (length K)) (slices-size n K size) size)
-          (either (λ (N : Table). SameIdeal n N K) (ltb (length (slices n K)) (length K)) (same-ideal-sym (completion-ideal n K size (slices-table n K size))) (same-ideal-refl n K))
+          (either (λ (N : Table). SameIdeal n N K) (ltb (length (slices n K)) (length K))
+          (same-ideal-sym (completion-ideal n K size (slices-table n K size))) (same-ideal-refl n K))
       go false e = walked-stays e
 
   -- the block stands at the end of what is written

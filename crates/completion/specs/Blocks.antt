@@ -3,7 +3,7 @@
 --   behind a B           the rows of B with the head a before each
 --   repeated b k B       B behind each of the heads b, b + 1, .. : k heads
 --   box caps             all monomials with as many exponents as caps, each at most that of caps, ascending
-use mathlib.Core.List.{List, [], _∷_, _++_, map}
+use mathlib.Core.List.{[], _∷_, _++_, map}
 use Prim.Native.Nat.{ℕ, zero, suc, _+_}
 use Rattle.terms.specs.Monomials.{Monomial, Table}
 

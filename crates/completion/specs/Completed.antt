@@ -9,7 +9,7 @@
 -- With the tests `entersTest`, `completedTest`.
 use mathlib.Core.Path.{_≡_}
 use mathlib.Core.Bool.{Bool, not, _&&_}
-use mathlib.Core.List.{List, [], _∷_, _++_}
+use mathlib.Core.List.{[], _∷_, _++_}
 use Prim.Native.Nat.{ℕ, zero, suc, _+_, _-_, _<_, max}
 use lib.Dec.{ltb, eqb}
 use lib.ListN.{length, take, drop, replicate}

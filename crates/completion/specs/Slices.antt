@@ -21,7 +21,7 @@
 -- since, and then the block of a. That `slices n G` is rule 5's table is proved in SliceLaws.
 use mathlib.Core.Path.{_≡_}
 use mathlib.Core.Bool.{Bool, not}
-use mathlib.Core.List.{List, [], _∷_, _++_, map, tail}
+use mathlib.Core.List.{[], _∷_, _++_, map, tail}
 use Prim.Native.Nat.{ℕ, zero, suc, _-_}
 use lib.Dec.{leb, ltb, eqb}
 use lib.ListN.{length}

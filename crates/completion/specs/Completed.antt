@@ -9,14 +9,15 @@
 -- With the tests `entersTest`, `completedTest`.
 use mathlib.Core.Path.{_≡_}
 use mathlib.Core.Bool.{Bool, not, _&&_}
-use mathlib.Core.List.{List, [], _∷_, _++_, map}
+use mathlib.Core.List.{[], _∷_, _++_}
 use Prim.Native.Nat.{ℕ, zero, suc, _+_, _-_, _<_, max}
-use lib.Dec.{leb, ltb, eqb}
-use lib.ListN.{length}
+use lib.Dec.{ltb, eqb}
+use lib.ListN.{length, take, drop, replicate}
 use Rattle.terms.specs.Tests.{_implies_, each, any, keep}
 use Rattle.terms.specs.Monomials.{Monomial, Table, _!_, _∈_, SameBefore, times}
-use Rattle.terms.specs.Ideal.{Inside, insideTest}
+use Rattle.terms.specs.Ideal.{Inside, dividesTest, insideTest}
 use Rattle.terms.specs.Order.{Ascending}
+use Rattle.completion.specs.Blocks.{box}
 
 pub record Enters (n : ℕ) (G : Table) (u : Monomial) (i : ℕ) : Type 0 where
   pub from : Monomial
@@ -36,3 +37,37 @@ pub record CompletedTable (n : ℕ) (G H : Table) : Type 0 where
   pub only : (u : Monomial) → u ∈ H → Completed n G u
   pub all : (u : Monomial) → Completed n G u → u ∈ H
   pub ascends : Ascending H
+
+-- ---- the tests
+
+-- the monomial that is as u before variable i, has one less there, and is as g behind i
+unfoldable pub candidate : Monomial → ℕ → Monomial → Monomial
+candidate u zero g = g
+candidate u (suc i) g = take i u ++ ((u ! suc i - 1) ∷ drop (suc i) g)
+
+-- the outside monomial may be taken to end as a row does, and that row is the one that divides it once it is raised
+unfoldable pub entersTest : Table → Monomial → ℕ → Bool
+unfolding candidate dividesTest insideTest
+entersTest G u i = any (λ g. let v = candidate u i g in dividesTest g (times v i (g ! i)) && not (insideTest G v)) G
+
+unfoldable pub completedTest : ℕ → Table → Monomial → Bool
+unfolding insideTest entersTest
+completedTest n G u = eqb (length u) n && (insideTest G u && each n (λ i. ltb 0 (u ! i) implies entersTest G u i))
+
+-- ---- the table
+
+-- the larger exponent of u and v at each variable
+unfoldable pub joined : Monomial → Monomial → Monomial
+joined [] v = v
+joined (a ∷ u) [] = a ∷ u
+joined (a ∷ u) (b ∷ v) = max a b ∷ joined u v
+
+-- the largest exponent of the rows of G at each of n variables
+unfoldable pub largest : ℕ → Table → Monomial
+unfolding joined
+largest n [] = replicate n 0
+largest n (u ∷ G) = joined u (largest n G)
+
+unfoldable pub completed : ℕ → Table → Table
+unfolding completedTest largest box
+completed n G = keep (λ u. completedTest n G u) (box (largest n G))

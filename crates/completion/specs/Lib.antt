@@ -1,2 +1,5 @@
--- Rule 5: the completed table.
+-- Rule 5: the completed table, the completion by slices, and what `complete` promises.
+pub mod Blocks
 pub mod Completed
+pub mod Slices
+pub mod Operation

@@ -1,0 +1,135 @@
+-- Examples A, B, D, E, H, I and J of the paper, of rule 5 and of what `complete` promises.
+--
+--   example-A ..           the completed table computes to the paper's
+--   example-A-table ..     that table is rule 5's, in the paper's words
+--   example-J-..           every result that the promise allows for D's rows with 6 and with 5 bytes of room
+use mathlib.Core.Path.{_≡_, refl, ap, _∙_, subst}
+use mathlib.Core.List.{List, [], _∷_}
+use Prim.Native.Nat.{ℕ}
+use lib.Dec.{T, eqb}
+use lib.ListN.{length}
+use Rattle.terms.specs.Tests.{all, tests-all, tests-eq}
+use Rattle.terms.specs.Monomials.{Monomial, Table, OfSize}
+use Rattle.terms.specs.Rows.{rows}
+use Rattle.completion.specs.Completed.{CompletedTable, completed}
+use Rattle.completion.specs.Operation.{roomFor, completeAnswer, completeBuffer, CompletePromise}
+use Rattle.completion.specs.declared.CompleteAnswer.{CompleteAnswer}
+use Rattle.completion.specs.declared.CompleteAnswer.the-variants.{Rows, Refused}
+use Rattle.completion.proofs.CompletedLaws.{completed-table}
+
+sized : (n : ℕ) (G : Table) → T (all (λ u. eqb (length u) n) G) → OfSize n G
+sized n G t = tests-all G (λ (u : Monomial) m. tests-eq (length u) n) .sound t
+
+-- what `completed` computes to is rule 5's table
+table-of : (n : ℕ) (G H : Table) → T (all (λ u. eqb (length u) n) G) → completed n G ≡ H → CompletedTable n G H
+table-of n G H t e = subst (λ (K : Table). CompletedTable n G K) e (completed-table n G (sized n G t))
+
+-- ---- A: no rows
+
+pub example-A : completed 2 [] ≡ []
+unfolding completed
+example-A = refl
+
+pub example-A-table : CompletedTable 2 [] []
+example-A-table = table-of 2 [] [] tt example-A
+
+-- ---- B: a row of zeros
+
+abbrev pub tableB : Table
+tableB = (0 ∷ 0 ∷ []) ∷ []
+
+pub example-B : completed 2 tableB ≡ tableB
+unfolding completed
+example-B = refl
+
+pub example-B-table : CompletedTable 2 tableB tableB
+example-B-table = table-of 2 tableB tableB tt example-B
+
+-- ---- D: the listing of the paper
+
+abbrev pub tableD : Table
+tableD = (2 ∷ 1 ∷ []) ∷ (0 ∷ 2 ∷ []) ∷ []
+
+abbrev pub completedD : Table
+completedD = (0 ∷ 2 ∷ []) ∷ (1 ∷ 2 ∷ []) ∷ (2 ∷ 1 ∷ []) ∷ []
+
+pub example-D : completed 2 tableD ≡ completedD
+unfolding completed
+example-D = refl
+
+pub example-D-table : CompletedTable 2 tableD completedD
+example-D-table = table-of 2 tableD completedD tt example-D
+
+-- ---- E: one row twice
+
+abbrev pub tableE : Table
+tableE = (1 ∷ 0 ∷ []) ∷ (1 ∷ 0 ∷ []) ∷ []
+
+pub example-E : completed 2 tableE ≡ (1 ∷ 0 ∷ []) ∷ []
+unfolding completed
+example-E = refl
+
+pub example-E-table : CompletedTable 2 tableE ((1 ∷ 0 ∷ []) ∷ [])
+example-E-table = table-of 2 tableE ((1 ∷ 0 ∷ []) ∷ []) tt example-E
+
+-- ---- H: document 002, example 5.2
+
+abbrev pub tableF : Table
+tableF = (0 ∷ 0 ∷ 2 ∷ []) ∷ (0 ∷ 1 ∷ 1 ∷ []) ∷ (0 ∷ 2 ∷ 0 ∷ []) ∷ (1 ∷ 0 ∷ 1 ∷ []) ∷ (3 ∷ 1 ∷ 0 ∷ []) ∷ []
+
+abbrev pub completedF : Table
+completedF =
+    (0 ∷ 0 ∷ 2 ∷ []) ∷ (0 ∷ 1 ∷ 1 ∷ []) ∷ (0 ∷ 2 ∷ 0 ∷ []) ∷ (1 ∷ 0 ∷ 1 ∷ []) ∷ (1 ∷ 1 ∷ 1 ∷ []) ∷ (1 ∷ 2 ∷ 0 ∷ []) ∷ (2 ∷ 0 ∷ 1 ∷ []) ∷ (2 ∷ 1 ∷ 1 ∷ [])
+    ∷ (2 ∷ 2 ∷ 0 ∷ []) ∷ (3 ∷ 0 ∷ 1 ∷ []) ∷ (3 ∷ 1 ∷ 0 ∷ []) ∷ []
+
+pub example-H : completed 3 tableF ≡ completedF
+unfolding completed
+example-H = refl
+
+pub example-H-table : CompletedTable 3 tableF completedF
+example-H-table = table-of 3 tableF completedF tt example-H
+
+-- ---- I: document 004, example 5.10, columns reversed
+
+abbrev pub tableI : Table
+tableI = (0 ∷ 1 ∷ 1 ∷ []) ∷ (1 ∷ 1 ∷ 0 ∷ []) ∷ (0 ∷ 2 ∷ 0 ∷ []) ∷ (3 ∷ 0 ∷ 0 ∷ []) ∷ []
+
+abbrev pub completedI : Table
+completedI = (0 ∷ 1 ∷ 1 ∷ []) ∷ (0 ∷ 2 ∷ 0 ∷ []) ∷ (1 ∷ 1 ∷ 0 ∷ []) ∷ (2 ∷ 1 ∷ 0 ∷ []) ∷ (3 ∷ 0 ∷ 0 ∷ []) ∷ []
+
+pub example-I : completed 3 tableI ≡ completedI
+unfolding completed
+example-I = refl
+
+pub example-I-table : CompletedTable 3 tableI completedI
+example-I-table = table-of 3 tableI completedI tt example-I
+
+-- ---- J: D's rows with 6 bytes of room and with 5
+
+abbrev pub bytesD : List ℕ
+bytesD = 2 ∷ 1 ∷ 0 ∷ 2 ∷ []
+
+answer-six : completeAnswer 2 bytesD 6 ≡ Rows 3
+unfolding completeAnswer completed rows roomFor
+answer-six = refl
+
+answer-five : completeAnswer 2 bytesD 5 ≡ Refused 8
+unfolding completeAnswer completed rows roomFor
+answer-five = refl
+
+pub example-J-accepted : (buffer : List ℕ) {answer : CompleteAnswer} {after : List ℕ} → length buffer ≡ 6 → CompletePromise 2 bytesD buffer answer after →
+    answer ≡ Rows 3
+example-J-accepted buffer e p = p .answers ∙ ap (completeAnswer 2 bytesD) e ∙ answer-six
+
+pub example-J-refused : (buffer : List ℕ) {answer : CompleteAnswer} {after : List ℕ} → length buffer ≡ 5 → CompletePromise 2 bytesD buffer answer after →
+    answer ≡ Refused 8
+example-J-refused buffer e p = p .answers ∙ ap (completeAnswer 2 bytesD) e ∙ answer-five
+
+-- what six lent bytes become, and what five stay
+pub example-J-written : (a b c d e f : ℕ) → completeBuffer 2 bytesD (a ∷ b ∷ c ∷ d ∷ e ∷ f ∷ []) ≡ 0 ∷ 2 ∷ 1 ∷ 2 ∷ 2 ∷ 1 ∷ []
+unfolding completeBuffer completed rows roomFor
+example-J-written a b c d e f = refl
+
+pub example-J-kept : (a b c d e : ℕ) → completeBuffer 2 bytesD (a ∷ b ∷ c ∷ d ∷ e ∷ []) ≡ a ∷ b ∷ c ∷ d ∷ e ∷ []
+unfolding completeBuffer completed rows roomFor
+example-J-kept a b c d e = refl

@@ -1,0 +1,4 @@
+-- The laws of counting.
+pub mod SumLaws
+pub mod ShareLaws
+pub mod CountLaws

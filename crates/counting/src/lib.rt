@@ -1,0 +1,2 @@
+// Counts above the division.
+pub fn nothing() -> u8 { 0 }

@@ -2,3 +2,6 @@
 pub mod SumLaws
 pub mod ShareLaws
 pub mod CountLaws
+pub mod JanetCount
+pub mod PolynomialLaws
+pub mod Examples

@@ -26,8 +26,8 @@ use Rattle.terms.specs.Ideal.{Divides, Inside, insideTest}
 use Rattle.terms.proofs.MonomialLaws.{within, positive, same-all}
 use Rattle.terms.proofs.IdealLaws.{tests-inside, inside-zeros}
 use Rattle.terms.proofs.RowsLaws.{member-at}
-use Rattle.division.specs.Cones.{Marking, Cone, DivisorAt, Disjoint, Covers}
-use Rattle.counting.specs.Counts.{sum, raised, extended, monomialsUpTo, sameTest, occurrences, countAt, markCount, share}
+use Rattle.division.proofs.Facade.{Marking, Cone, DivisorAt, Disjoint, Covers, marksCount}
+use Rattle.counting.specs.Counts.{sum, raised, extended, monomialsUpTo, sameTest, occurrences, countAt, share}
 use Rattle.counting.proofs.SumLaws.{bit, bit-false, bit-not, sum-append, sum-add, sum-zero, sum-same, sum-map, sum-swap, length-keep, keep-or-not, one-at-most}
 use Rattle.counting.proofs.ShareLaws.{size, share-size, share-inside, size-pascal, size-first, coneTest, markAt, weight, tests-cone, cone-count, listed, length-listed, listed-at, weight-listed}
 
@@ -147,7 +147,7 @@ upTo-length n s = length-ones (monomialsUpTo n s) ∙ upTo-ones n s ∙ ap (λ (
 -- one cone are its share.
 module _ (M : Marking) (marked : Monomial → ℕ → Bool) (n : ℕ) (G : Table) (z : OfSize n G) (agrees : (u : Monomial) → u ∈ G → (i : ℕ) → 0 < i → i ≤ n → Tests (marked u i) (M G u i)) where
   abbrev pub shareOf : ℕ → Monomial → ℕ
-  shareOf s u = share s (degree u) (markCount n (marked u))
+  shareOf s u = share s (degree u) (marksCount n (marked u))
 
   abbrev coneOf : Monomial → Monomial → Bool
   coneOf q u = coneTest (listed n (marked u)) u q
@@ -179,7 +179,7 @@ module _ (M : Marking) (marked : Monomial → ℕ → Bool) (n : ℕ) (G : Table
         subst (λ (k : ℕ). sum (λ q. bit (coneOf q u)) (monomialsUpTo k s) ≡ size s (degree u) (weight (listed n (marked u)))) (z u m)
         (cone-count (listed n (marked u)) u (length-listed n (marked u) ∙ sym (z u m)) s)
         ∙ ap (size s (degree u)) (weight-listed n (marked u))
-        ∙ sym (share-size s (degree u) (markCount n (marked u)))
+        ∙ sym (share-size s (degree u) (marksCount n (marked u)))
 
     pub shares-inside : sum (shareOf s) G ≡ length (keep (insideTest G) (monomialsUpTo n s))
     shares-inside = sym (

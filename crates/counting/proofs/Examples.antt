@@ -13,8 +13,8 @@ use Rattle.binomial.specs.Choose.{choose}
 use Rattle.binomial.proofs.ChooseLaws.{choose-one}
 use Rattle.terms.specs.Monomials.{Monomial, Table, _!_, degree}
 use Rattle.terms.specs.Ideal.{insideTest, dividesTest}
-use Rattle.division.specs.Janet.{multiplicativeTest, group, sameBeforeTest}
-use Rattle.counting.specs.Counts.{sumℤ, raised, extended, monomialsUpTo, countAt, markCount, share, marksIn, oddTest, chooseℤ, signedShare, polynomialAt, steadyOf}
+use Rattle.division.proofs.Facade.{multiplicativeTest, marksCount}
+use Rattle.counting.specs.Counts.{sumℤ, raised, extended, monomialsUpTo, countAt, share, marksIn, oddTest, chooseℤ, signedShare, polynomialAt, steadyOf}
 use Rattle.counting.proofs.CountLaws.{count-zeros}
 use Rattle.counting.proofs.PolynomialLaws.{subℕ-pos}
 
@@ -56,7 +56,7 @@ all-C k = choose-one (1 + suc (suc k)) ∙ omega arith
 
 -- C(s + 1, 1) less C(s − 2, 1): from 2 on s + 1 less s − 2, and at 0 and 1 it is computed.
 pub example-C-polynomial : (s : ℕ) → polynomialAt 1 rowsC s ≡ pos 3
-unfolding polynomialAt sumℤ signedShare chooseℤ oddTest choose marksIn markCount multiplicativeTest group sameBeforeTest degree
+unfolding polynomialAt sumℤ signedShare chooseℤ oddTest choose marksIn marksCount multiplicativeTest degree
 example-C-polynomial zero = refl
 example-C-polynomial (suc zero) = refl
 example-C-polynomial (suc (suc k)) =
@@ -64,5 +64,5 @@ example-C-polynomial (suc (suc k)) =
     ∙ +ℤ-negℤ-cancel (pos 3) (pos k)
 
 pub example-D : (countAt 2 rowsD 3 ≡ 6) × (countAt 2 rowsD 0 ≡ 1) × (polynomialAt 2 rowsD 0 ≡ pos 3) × (steadyOf rowsD ≡ 3)
-unfolding countAt monomialsUpTo extended raised insideTest dividesTest polynomialAt sumℤ signedShare chooseℤ oddTest choose marksIn markCount multiplicativeTest group sameBeforeTest degree steadyOf
+unfolding countAt monomialsUpTo extended raised insideTest dividesTest polynomialAt sumℤ signedShare chooseℤ oddTest choose marksIn marksCount multiplicativeTest degree steadyOf
 example-D = (refl, refl, refl, refl)

@@ -13,9 +13,7 @@ use Rattle.terms.specs.Tests.{Tests, keep}
 use Rattle.terms.specs.Monomials.{Monomial, Table, _∈_, OfSize, degree}
 use Rattle.terms.specs.Ideal.{insideTest}
 use Rattle.terms.specs.Order.{Ascending}
-use Rattle.division.specs.Janet.{Multiplicative, multiplicativeTest, Complete}
-use Rattle.division.proofs.JanetLaws.{tests-multiplicative, janet-disjoint, ascending-distinct}
-use Rattle.division.proofs.Cover.{cover}
+use Rattle.division.proofs.Facade.{Multiplicative, multiplicativeTest, Complete, tests-multiplicative, janet-disjoint, ascending-distinct, cover}
 use Rattle.counting.specs.Counts.{sum, monomialsUpTo, countAt, share, marksIn}
 use Rattle.counting.proofs.CountLaws.{shares-inside, count-formula}
 

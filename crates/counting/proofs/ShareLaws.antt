@@ -22,7 +22,8 @@ use Rattle.binomial.specs.Choose.{choose}
 use Rattle.binomial.proofs.ChooseLaws.{choose-self}
 use Rattle.terms.specs.Tests.{Tests, pick, tests-as, tests-and}
 use Rattle.terms.specs.Monomials.{Monomial, _!_, degree}
-use Rattle.counting.specs.Counts.{sum, raised, extended, monomialsUpTo, share, markCount}
+use Rattle.counting.specs.Counts.{sum, raised, extended, monomialsUpTo, share}
+use Rattle.division.proofs.Facade.{marksCount}
 use Rattle.counting.proofs.SumLaws.{bit, sum-append, sum-zero, sum-same, sum-map}
 
 -- ---- the share by steps
@@ -227,12 +228,12 @@ pick-bit true = refl
 pick-bit false = refl
 
 -- the number of marks, counted from the first variable
-count-front : (n : ℕ) (f : ℕ → Bool) → markCount (suc n) f ≡ bit (f 1) + markCount n (λ i. f (suc i))
-unfolding markCount
+count-front : (n : ℕ) (f : ℕ → Bool) → marksCount (suc n) f ≡ bit (f 1) + marksCount n (λ i. f (suc i))
+unfolding marksCount
 count-front zero f = omega (arith, pick-bit (f 1))
 count-front (suc n) f = omega (arith, count-front n f)
 
-pub weight-listed : (n : ℕ) (f : ℕ → Bool) → weight (listed n f) ≡ markCount n f
-unfolding weight listed markCount
+pub weight-listed : (n : ℕ) (f : ℕ → Bool) → weight (listed n f) ≡ marksCount n f
+unfolding weight listed marksCount
 weight-listed zero f = refl
 weight-listed (suc n) f = omega (arith, weight-listed n (λ i. f (suc i)), count-front n f)

@@ -2,7 +2,7 @@
 --
 --   monomialsUpTo n s   the monomials of n exponents and of degree at most s, each once
 --   countAt n G s    rule 7: the number of those outside the ideal of G
---   markCount n f    the number of variables, of 1 to n, of which f holds: a row's marks
+--   marksIn n G u    the number of Janet's marks of the row u
 --   share s d m      rule 7: what a row of degree d with m marks takes away at s
 --   chooseℤ t m      rule 8: C(t, m) for any t, also a negative one
 --   signedShare s d m   rule 8: a row's share with no row left out
@@ -20,7 +20,7 @@ use Rattle.binomial.specs.Choose.{choose}
 use Rattle.terms.specs.Tests.{pick, keep}
 use Rattle.terms.specs.Monomials.{Monomial, Table, degree}
 use Rattle.terms.specs.Ideal.{insideTest}
-use Rattle.division.specs.Janet.{multiplicativeTest}
+use Rattle.division.proofs.Facade.{multiplicativeTest, marksCount}
 
 module _ {A : Type 0} where
   unfoldable pub sum : (A → ℕ) → List A → ℕ
@@ -66,10 +66,6 @@ unfoldable pub countAt : ℕ → Table → ℕ → ℕ
 unfolding monomialsUpTo insideTest
 countAt n G s = length (keep (λ q. not (insideTest G q)) (monomialsUpTo n s))
 
-unfoldable pub markCount : ℕ → (ℕ → Bool) → ℕ
-markCount zero f = 0
-markCount (suc n) f = markCount n f + pick (f (suc n)) 1 0
-
 -- C(s − d + m, m) for d not above s, and nothing otherwise
 unfoldable pub share : ℕ → ℕ → ℕ → ℕ
 unfolding choose
@@ -77,8 +73,8 @@ share s d m = pick (leb d s) (choose (s - d + m) m) 0
 
 -- Janet's number of marks of the row u
 unfoldable pub marksIn : ℕ → Table → Monomial → ℕ
-unfolding markCount multiplicativeTest
-marksIn n G u = markCount n (multiplicativeTest G u)
+unfolding marksCount multiplicativeTest
+marksIn n G u = marksCount n (multiplicativeTest G u)
 
 -- ---- rule 8
 

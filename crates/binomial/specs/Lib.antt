@@ -1,0 +1,2 @@
+-- Binomials.
+pub mod Choose

@@ -1,0 +1,99 @@
+-- What count, polynomial and steady promise.
+--
+--   countChecks n table s   the checks of count and polynomial, in order: 1 to 4 of the table, 5, 6, 7
+--   steadyChecks n table    the checks of steady: 1 to 4, 6, 7
+--   countNumber, countValue .. the paper's number of an answer, 0 for none, and the value beside it, 0 beside a refusal
+--   CountPromise n table s answer, PolynomialPromise, SteadyPromise   the promise: the number is that of the first check that refuses,
+--                    and where none does the answer is the value of the rule
+use mathlib.Core.Path.{_≡_}
+use mathlib.Core.Bool.{Bool, not}
+use mathlib.Core.List.{List, [], _∷_, _++_}
+use Prim.Native.Nat.{ℕ, _<_}
+use lib.Dec.{ltb, lit<}
+use lib.IntN.{ℤ, pos}
+use Rattle.terms.specs.Tests.{Tests, tests-lt, tests-not}
+use Rattle.terms.specs.Order.{Ascending, ascendingTest}
+use Rattle.terms.specs.Rows.{rows}
+use Rattle.terms.specs.Refusals.{Check, refusal, check, tableChecks}
+use Rattle.terms.proofs.OrderLaws.{tests-ascending}
+use Rattle.division.proofs.Facade.{Complete, completeTest, tests-complete}
+use Rattle.counting.specs.Counts.{countAt, polynomialAt, steadyOf}
+use Rattle.counting.specs.declared.CountAnswer.{CountAnswer}
+use Rattle.counting.specs.declared.CountAnswer.the-variants as count
+use Rattle.counting.specs.declared.PolynomialAnswer.{PolynomialAnswer}
+use Rattle.counting.specs.declared.PolynomialAnswer.the-variants as polynomial
+use Rattle.counting.specs.declared.SteadyAnswer.{SteadyAnswer}
+use Rattle.counting.specs.declared.SteadyAnswer.the-variants as steady
+use Rattle.terms.specs.declared.Degree.{Degree}
+
+-- ---- the checks
+
+-- 5: s above 300
+abbrev pub Above300 : ℕ → Type 0
+Above300 s = 300 < s
+
+-- 6: rows not strictly ascending
+abbrev pub NotAscending : ℕ → List ℕ → Type 0
+NotAscending n table = Ascending (rows n table) → ⊥
+
+-- 7: table not complete
+abbrev pub NotComplete : ℕ → List ℕ → Type 0
+NotComplete n table = Complete n (rows n table) → ⊥
+
+pub tests-notAscending : (n : ℕ) (table : List ℕ) → Tests (not (ascendingTest (rows n table))) (NotAscending n table)
+tests-notAscending n table = tests-not (tests-ascending (rows n table))
+
+pub tests-notComplete : (n : ℕ) (table : List ℕ) → Tests (not (completeTest n (rows n table))) (NotComplete n table)
+tests-notComplete n table = tests-not (tests-complete n (rows n table))
+
+-- the checks 6 and 7, which all three end with
+abbrev pub orderChecks : ℕ → List ℕ → List Check
+orderChecks n table = check 6 (lit< tt) (tests-notAscending n table) ∷ check 7 (lit< tt) (tests-notComplete n table) ∷ []
+
+abbrev pub countChecks : ℕ → List ℕ → ℕ → List Check
+countChecks n table s = tableChecks n table ++ (check 5 (lit< tt) (tests-lt 300 s) ∷ orderChecks n table)
+
+abbrev pub steadyChecks : ℕ → List ℕ → List Check
+steadyChecks n table = tableChecks n table ++ orderChecks n table
+
+-- ---- count
+
+abbrev pub countNumber : CountAnswer → ℕ
+countNumber (count.Value v) = 0
+countNumber (count.Refused m) = m
+
+abbrev pub countValue : CountAnswer → ℕ
+countValue (count.Value v) = v
+countValue (count.Refused m) = 0
+
+pub record CountPromise (n : ℕ) (table : List ℕ) (s : ℕ) (answer : CountAnswer) : Type 0 where
+  pub number : countNumber answer ≡ refusal (countChecks n table s)
+  pub value : refusal (countChecks n table s) ≡ 0 → answer ≡ count.Value (countAt n (rows n table) s)
+
+-- ---- polynomial
+
+abbrev pub polynomialNumber : PolynomialAnswer → ℕ
+polynomialNumber (polynomial.Value v) = 0
+polynomialNumber (polynomial.Refused m) = m
+
+abbrev pub polynomialValue : PolynomialAnswer → ℤ
+polynomialValue (polynomial.Value v) = v
+polynomialValue (polynomial.Refused m) = pos 0
+
+pub record PolynomialPromise (n : ℕ) (table : List ℕ) (s : ℕ) (answer : PolynomialAnswer) : Type 0 where
+  pub number : polynomialNumber answer ≡ refusal (countChecks n table s)
+  pub value : refusal (countChecks n table s) ≡ 0 → answer ≡ polynomial.Value (polynomialAt n (rows n table) s)
+
+-- ---- steady
+
+abbrev pub steadyNumber : SteadyAnswer → ℕ
+steadyNumber (steady.At d) = 0
+steadyNumber (steady.Refused m) = m
+
+abbrev pub steadyValue : SteadyAnswer → ℕ
+steadyValue (steady.At d) = d .0
+steadyValue (steady.Refused m) = 0
+
+pub record SteadyPromise (n : ℕ) (table : List ℕ) (answer : SteadyAnswer) : Type 0 where
+  pub number : steadyNumber answer ≡ refusal (steadyChecks n table)
+  pub value : refusal (steadyChecks n table) ≡ 0 → answer ≡ steady.At (record { 0 = steadyOf (rows n table) })

@@ -1,0 +1,172 @@
+// The bundle reader: which table a number names, where its bytes stand, and which check refuses.
+ghost use mathlib.Core.Path.{_≡_};
+ghost use mathlib.Core.List.{_++_};
+ghost use Prim.Native.Nat.{ℕ, suc, _+_, _*_, _≤_, _<_};
+ghost use lib.ListN.{length};
+ghost use Rattle.terms.specs.Refusals.{refusal};
+ghost use Rattle.bundle.specs.Format.{byteAt, number16, variablesOf, tableCount, headerLength, rowCount, placeOf};
+ghost use Rattle.bundle.specs.Checks.{frameChecks, tableChecksOf, tablesChecks, remainChecks, layoutChecks, bundleChecks, openChecks};
+ghost use Rattle.bundle.specs.Operation.{LocatePromise};
+
+// The most bytes of a bundle, and the most tables.
+pub const MOST_BYTES: usize = 65535;
+
+pub const MOST_TABLES: usize = 16;
+
+// Where a table stands: its n, its row count and the place where its bytes begin, or all 0 beside a refusal.
+pub struct Located {
+    pub refusal: u8,
+    pub n: usize,
+    pub rows: usize,
+    pub place: usize,
+}
+
+// The byte at i.
+fn byte_at(bundle: &[u8], i: usize) -> usize
+    requires { ⌜ i < length (now bundle) ⌝ }
+    ensures { λ r. ⌜ (r ≡ byteAt (now (bundle .entry)) i) × (r < 256) ⌝ }
+{
+    bundle[i] as usize
+}
+
+// The 16-bit number at i, low byte first.
+fn read16(bundle: &[u8], i: usize) -> usize
+    requires { ⌜ i + 1 < length (now bundle) ⌝ }
+    ensures { λ r. ⌜ (r ≡ number16 (now (bundle .entry)) i) × (r < 65536) ⌝ }
+{
+    let low = byte_at(bundle, i);
+    let high = byte_at(bundle, i + 1);
+    low + 256 * high
+}
+
+// The checks of the frame: 9, then 1.
+fn frame_refusal(bundle: &[u8]) -> u8
+    ensures { λ r. ⌜ r ≡ refusal (frameChecks (now (bundle .entry))) ⌝ }
+{
+    let size = bundle.len();
+    if size < 2 {
+        return 9;
+    }
+    if MOST_BYTES < size {
+        return 9;
+    }
+    let tables = byte_at(bundle, 1);
+    if tables == 0 {
+        return 9;
+    }
+    if MOST_TABLES < tables {
+        return 9;
+    }
+    if size < 2 + 4 * tables {
+        return 9;
+    }
+    let n = byte_at(bundle, 0);
+    if n == 0 {
+        return 1;
+    }
+    if 6 < n {
+        return 1;
+    }
+    0
+}
+
+// The checks of table j, whose body must begin at the place: 3, 10, 11.
+fn one_table_refusal(bundle: &[u8], n: usize, j: usize, place: usize) -> u8
+    requires { ⌜ (refusal (frameChecks (now bundle)) ≡ 0) × (n ≡ variablesOf (now bundle)) × (j < tableCount (now bundle)) × (place ≡ placeOf (now bundle) j) × (place ≤ 65535) ⌝ }
+    ensures { λ r. ⌜ r ≡ refusal (tableChecksOf (now (bundle .entry)) j) ⌝ }
+{
+    let rows = read16(bundle, 2 + 4 * j);
+    if terms::MOST_ROWS < rows {
+        return 3;
+    }
+    let offset = read16(bundle, 4 + 4 * j);
+    if offset != place {
+        return 10;
+    }
+    if bundle.len() < place + rows * n {
+        return 11;
+    }
+    0
+}
+
+// The checks of each table in turn, then that no bytes remain (11).
+fn tables_refusal(bundle: &[u8], n: usize, tables: usize) -> u8
+    requires { ⌜ (refusal (frameChecks (now bundle)) ≡ 0) × (n ≡ variablesOf (now bundle)) × (tables ≡ tableCount (now bundle)) ⌝ }
+    ensures { λ r. ⌜ r ≡ refusal (tablesChecks (now (bundle .entry)) 0 tables ++ remainChecks (now (bundle .entry))) ⌝ }
+{
+    let mut place = 2 + 4 * tables;
+    let mut j = 0;
+    while j < tables {
+        let number = one_table_refusal(bundle, n, j, place);
+        if number != 0 {
+            return number;
+        }
+        place += read16(bundle, 2 + 4 * j) * n;
+        j += 1;
+    }
+    if place < bundle.len() {
+        return 11;
+    }
+    0
+}
+
+// The checks of the bundle's layout: 9, 1, those of each table, bytes that remain.
+fn layout_refusal(bundle: &[u8]) -> u8
+    ensures { λ r. ⌜ r ≡ refusal (layoutChecks (now (bundle .entry))) ⌝ }
+{
+    let number = frame_refusal(bundle);
+    if number != 0 {
+        return number;
+    }
+    let n = byte_at(bundle, 0);
+    let tables = byte_at(bundle, 1);
+    tables_refusal(bundle, n, tables)
+}
+
+// The number of the first check that refuses the bundle, whichever table is asked for; 0 where none does.
+pub fn bundle_refusal(bundle: &[u8]) -> u8
+    ensures { λ r. ⌜ r ≡ refusal (bundleChecks (now (bundle .entry))) ⌝ }
+{
+    let number = layout_refusal(bundle);
+    if number != 0 {
+        return number;
+    }
+    let tables = byte_at(bundle, 1);
+    let start = 2 + 4 * tables;
+    if terms::has_large_entry(&bundle[start..]) {
+        return 4;
+    }
+    0
+}
+
+// The refusal, n, the row count and the place of table j.
+pub fn locate(bundle: &[u8], j: usize) -> Located
+    ensures { λ r. ⌜ LocatePromise (now (bundle .entry)) j r ⌝ }
+{
+    let number = bundle_refusal(bundle);
+    if number != 0 {
+        return Located {
+            refusal: number,
+            n: 0,
+            rows: 0,
+            place: 0,
+        };
+    }
+    if byte_at(bundle, 1) <= j {
+        return Located {
+            refusal: 5,
+            n: 0,
+            rows: 0,
+            place: 0,
+        };
+    }
+    let n = byte_at(bundle, 0);
+    let rows = read16(bundle, 2 + 4 * j);
+    let place = read16(bundle, 4 + 4 * j);
+    Located {
+        refusal: 0,
+        n,
+        rows,
+        place,
+    }
+}

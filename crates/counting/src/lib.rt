@@ -18,5 +18,3 @@ pub enum SteadyAnswer {
     At(Degree),
     Refused(u8),
 }
-
-pub fn nothing() -> u8 { 0 }

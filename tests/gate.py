@@ -29,11 +29,18 @@ def rattle_files():
 
 
 def functions(path):
-    """The functions of a source file: (name, whether it is public, the text between its name and its body)."""
-    head = re.compile(r'^[ \t]*(pub )?(?:extern "C" )?fn (\w+)(.*?)^[ \t]*\{|^[ \t]*(pub )?(?:extern "C" )?fn (\w+)([^\n]*)\{', re.S | re.M)
-    for found in head.finditer(re.sub(r'//[^\n]*', '', read(path))):
-        one_line = found.group(5) is not None
-        yield (found.group(5), found.group(4), found.group(6)) if one_line else (found.group(2), found.group(1), found.group(3))
+    """The functions of a source file: (name, whether it is public, its clauses: what stands between its result and its body)."""
+    text = re.sub(r'//[^\n]*', '', read(path))
+    for found in re.finditer(r'^[ \t]*(pub )?(?:extern "C" )?fn (\w+)', text, re.M):
+        depth, at = 0, text.index('(', found.end())
+        while True:
+            depth += {'(': 1, ')': -1}.get(text[at], 0)
+            at += 1
+            if depth == 0:
+                break
+        line = text[at:text.index('\n', at)]
+        body = re.compile(r'^[ \t]*\{', re.M).search(text, at)
+        yield found.group(2), bool(found.group(1)), '' if '{' in line or not body else text[at:body.start()]
 
 
 def listed_crates():

@@ -3,22 +3,34 @@
 --   complete-unique        two results that the promise allows are equal
 --   complete-accepts       where no check refuses: the row count, the rows at the front, and the bytes behind them
 --   complete-refuses       where one does: its number, and the buffer as it was
+--   complete-rows          an accepted result: the first rows of the buffer are rule 5's table of the given rows, and the bytes behind them stay
+--   complete-length        no result changes the buffer's length
+--   room-fits              rows within the room fit the buffer
 --   room-enough, no-room   8 after the checks 1 to 4 passed, in terms of the completed table
-use mathlib.Core.Path.{_≡_, refl, sym, ap, _∙_}
+use mathlib.Core.Path.{_≡_, refl, sym, ap, _∙_, subst}
 use mathlib.Core.Bool.{Bool}
-use mathlib.Core.List.{List, [], _∷_, _++_}
-use Prim.Native.Nat.{ℕ, zero, suc, _*_, _≤_, _<_}
-use native.Mathlib.Nat.{not-suc-le-zero}
+use mathlib.Core.List.{List, [], _∷_, _++_, List·Memᴰ, List·Memᴰ·head, Memᴰ·append-right}
+use mathlib.Core.Logic.{by-cases}
+use Prim.Native.Nat.{ℕ, zero, suc, _*_, _/_, _≤_, _<_}
+use native.Mathlib.Nat.{not-suc-le-zero, le-trans, min-le-right, mul-le-mul-right, div-mul-le-self}
+use native.Mathlib.Decide.{decLe, decLt}
 use native.Mathlib.Omega.{arith}
-use lib.ListN.{length, drop}
+use lib.ListN.{length, drop, length-append, length-drop}
+use lib.Seq.{drop-at}
 use Rattle.terms.specs.Tests.{pick, tests-eq, tests-true, tests-false}
-use Rattle.terms.specs.Rows.{flat}
+use Rattle.terms.specs.Monomials.{Table, OfSize}
+use Rattle.terms.specs.Rows.{rows, firstRows, flat}
 use Rattle.terms.specs.Refusals.{Accepts, refusal, tableChecks}
-use Rattle.terms.proofs.RefusalLaws.{refusal-holds, refusal-passes, refusal-append}
-use Rattle.completion.specs.Operation.{roomFor, completedOf, NoRoom, roomCheck, completeChecks, completeNumber, completeCase, completeAnswer}
+use Rattle.terms.proofs.RefusalLaws.{accepted, refusal-holds, refusal-passes, refusal-append}
+use Rattle.terms.proofs.RowsLaws.{rows-size, length-flat, firstRows-flat}
+use Rattle.completion.specs.Completed.{CompletedTable}
+use Rattle.completion.specs.Operation.{roomFor, completedOf, NoRoom, roomCheck, completeChecks, completeNumber, completeRows, completeCase}
+use Rattle.completion.specs.Operation.{completeAnswer}
 use Rattle.completion.specs.Operation.{completeBuffer, CompletePromise}
 use Rattle.completion.specs.declared.CompleteAnswer.{CompleteAnswer}
 use Rattle.completion.specs.declared.CompleteAnswer.the-variants.{Rows, Refused}
+use Rattle.completion.proofs.CompletedLaws.{completed-table}
+use Rattle.completion.proofs.CompletionLaws.{completion-size}
 
 -- ---- one result
 
@@ -72,3 +84,65 @@ room-enough n table size a l =
 
 pub no-room : (n : ℕ) (table : List ℕ) (size : ℕ) → Accepts (tableChecks n table) → NoRoom n table size → refusal (completeChecks n table size) ≡ 8
 no-room n table size a h = refusal-append (tableChecks n table) (roomCheck n table size ∷ []) a ∙ refusal-holds (roomCheck n table size) [] h
+
+-- ---- what stands in the buffer
+
+pub room-fits : (n size k : ℕ) → k ≤ roomFor n size → k * n ≤ size
+unfolding roomFor
+room-fits n size k h =
+    let l : k * n ≤ size / n * n = mul-le-mul-right n (le-trans h (min-le-right 4096 (size / n))) in
+    le-trans l (div-mul-le-self size n)
+
+-- a table that is accepted has room
+pub accepted-room : (n : ℕ) (table : List ℕ) (size : ℕ) → refusal (completeChecks n table size) ≡ 0 → length (completedOf n table) ≤ roomFor n size
+accepted-room n table size e = by-cases (decLe (length (completedOf n table)) (roomFor n size)) (λ l. l)
+    (λ g. absurd (accepted (completeChecks n table size) e (roomCheck n table size) last (omega arith)))
+  where
+    last : List·Memᴰ (roomCheck n table size) (completeChecks n table size)
+    last = Memᴰ·append-right (tableChecks n table) (List·Memᴰ·head refl)
+
+-- the completed rows have n exponents each
+pub completedOf-size : (n : ℕ) (table : List ℕ) → OfSize n (completedOf n table)
+completedOf-size n table = completion-size (completed-table n (rows n table) (rows-size n table))
+
+module _ {n : ℕ} {table buffer : List ℕ} {k : ℕ} {after : List ℕ} (p : CompletePromise n table buffer (Rows k) after) where
+  accepted-result : (Rows k ≡ Rows (length (completedOf n table))) × (after ≡ flat (completedOf n table) ++ drop (length (completedOf n table) * n) buffer)
+  accepted-result = complete-unique p (complete-accepts n table buffer (sym (p .number)))
+
+  pub complete-count : k ≡ length (completedOf n table)
+  complete-count = ap completeRows (accepted-result .0)
+
+  pub complete-rows : CompletedTable n (rows n table) (firstRows n k after)
+  complete-rows =
+      let e : firstRows n k after ≡ completedOf n table = rw (complete-count, accepted-result .1)
+      (firstRows-flat n (completedOf n table) (drop (length (completedOf n table) * n) buffer) (completedOf-size n table)) in
+      subst (λ (H : Table). CompletedTable n (rows n table) H) (sym e) (completed-table n (rows n table) (rows-size n table))
+
+  pub complete-behind : drop (k * n) after ≡ drop (k * n) buffer
+  complete-behind =
+      let l : length (flat (completedOf n table)) ≡ length (completedOf n table) * n = length-flat n (completedOf n table) (completedOf-size n table) in
+      rw (complete-count, accepted-result .1) (drop-at (flat (completedOf n table)) (drop (length (completedOf n table) * n) buffer)
+      (length (completedOf n table) * n) l)
+
+  complete-same : length after ≡ length buffer
+  complete-same =
+      let H : Table = completedOf n table in
+      let l : length (flat H) ≡ length H * n = length-flat n H (completedOf-size n table) in
+      let f : length H * n ≤ length buffer = room-fits n (length buffer) (length H) (accepted-room n table (length buffer) (sym (p .number))) in
+      ap length (accepted-result .1) ∙ length-append (flat H) (drop (length H * n) buffer) ∙ omega (arith, length-drop (length H * n) buffer)
+
+-- a refusal carries a number above 0, and the buffer stays
+pub complete-kept : {n : ℕ} {table buffer : List ℕ} {m : ℕ} {after : List ℕ} → CompletePromise n table buffer (Refused m) after → (0 < m) × (after ≡ buffer)
+complete-kept {n} {table} {buffer} {m} p = by-cases (decLt 0 m)
+    (λ l. (l, complete-unique p (complete-refuses n table buffer (omega (arith, p .number))) .1))
+    (λ g.
+    let e : m ≡ 0 = omega arith in
+    absurd (never (complete-unique p (complete-accepts n table buffer (sym (p .number) ∙ e)) .0)))
+  where
+    never : {k : ℕ} → Refused m ≡ Rows k → ⊥
+    never e = let z : _≡_ {A = ℕ} 0 1 = cc in omega arith
+
+pub complete-length : {n : ℕ} {table buffer : List ℕ} {answer : CompleteAnswer} {after : List ℕ} → CompletePromise n table buffer answer after →
+    length after ≡ length buffer
+complete-length {answer = Rows k} p = complete-same p
+complete-length {answer = Refused m} p = ap length (complete-kept p .1)

@@ -127,6 +127,7 @@ pub below-none : (G : Table) {q : Monomial} → Inside (below 0 G) q → ⊥
 below-none G h = not-suc-le-zero (below-use 0 h .head)
 
 -- ---- law 2: the ideal by slices
+-- A row divides a ∷ q exactly where its head is at most a and its tail divides q.
 
 pub slice-into : {a : ℕ} {G : Table} {q : Monomial} → Inside G (a ∷ q) → Inside (under a G) q
 slice-into {a} {q = q} h = below-make (suc a)
@@ -138,6 +139,9 @@ slice-back {a} {q = q} h =
     record { row = s .row; member = s .member; divides = divides-cons (s .row) a q (omega (arith, s .head)) (s .divides) }
 
 -- ---- law 3: rule 5 by slices
+-- a ∷ t is in the completed table of G exactly where t is in that of the slice up to a, and a is 0 or the tail of some row is outside the slice below a.
+-- From variable 2 on the outside monomial begins with a, so law 2 serves. At variable 1: where (a − 1) ∷ q is outside and enters, the tail of the row that
+-- divides it then divides q, and it is outside the slice below a, else q would be inside; back, that tail serves for q.
 
 pub record Beyond (a : ℕ) (G : Table) : Type 0 where
   pub row : Monomial
@@ -233,6 +237,8 @@ module _ {n : ℕ} {G : Table} {a : ℕ} {t : Monomial} where
       each (suc (suc i)) p = enters-unslice (c .each (suc i) p)
 
 -- ---- law 4: growing
+-- Where a does not grow, the slices below a and up to a have one ideal. Some tail is outside the slice below a exactly where some head from a on grows:
+-- of the rows whose tails divide it, one of the least head does.
 
 pub record Grows (a : ℕ) (G : Table) : Type 0 where
   pub row : Monomial
@@ -300,6 +306,7 @@ pub beyond-grows : {a : ℕ} {G : Table} → Beyond a G → (b : ℕ) × (a ≤ 
 beyond-grows {a} {G} h = grows-among a G (h .row ! 1) (h .row) (h .member) (omega arith) (h .outside)
 
 -- ---- law 6: other generators
+-- Whatever generates the ideal of the slice below a serves for it: to ask whether a grows, and with the tails of head a to generate the slice up to a.
 
 pub inside-left : {G : Table} (H : Table) {q : Monomial} → Inside G q → Inside (G ++ H) q
 inside-left H h = record { row = h .row; member = Memᴰ·append-left H (h .member); divides = h .divides }
@@ -335,6 +342,7 @@ module _ {n : ℕ} (a : ℕ) {sub : Table} (G : Table) (s : SameIdeal n sub (bel
           (record { row = k .row; member = k .member; head = omega (arith, k .head); divides = k .divides })))
 
 -- ---- law 5: one step
+-- If a does not grow nothing is added; if it grows, the block of the slices below a under each head since the last growing one, and then its own block.
 -- Stated for any S that the ideal settles, so that other completions go the same way.
 
 pub record Settled (n : ℕ) (S : Table → Monomial → Type 0) : Type 0 where

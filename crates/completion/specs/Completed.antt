@@ -4,7 +4,8 @@
 --                    and enters the ideal when variable i alone is raised enough
 --   Completed n G u  u is in the ideal, and `Enters` holds at each variable where u is above 0
 --   CompletedTable n G H   H is the completed table of the ideal of G: its rows are exactly those, and they ascend
---   completed n G    that table, as a list that computes
+--   largest n G      the largest exponent of the rows of G at each variable
+--   completed n G    that table as a list that computes: the monomials that pass, of all whose exponents are at most the largest of G
 --
 -- With the tests `entersTest`, `completedTest`.
 use mathlib.Core.Path.{_≡_}
@@ -18,6 +19,8 @@ use Rattle.terms.specs.Monomials.{Monomial, Table, _!_, _∈_, SameBefore, time
 use Rattle.terms.specs.Ideal.{Inside, dividesTest, insideTest}
 use Rattle.terms.specs.Order.{Ascending}
 use Rattle.completion.specs.Blocks.{box}
+
+-- ---- the rule
 
 pub record Enters (n : ℕ) (G : Table) (u : Monomial) (i : ℕ) : Type 0 where
   pub from : Monomial

@@ -18,7 +18,7 @@
 --   fit room e           the end e of what is written, or room + 1 where it is beyond the room
 --
 -- In each, f is the recursion on the tails. The walk writes, for each head a at which the ideal grows, first the last block again under each head
--- since, and then the block of a. That `slices n G` is rule 5's table is proved in SliceLaws.
+-- since, and then the block of a. That `slices n G` is rule 5's table is proved in WalkLaws.
 use mathlib.Core.Path.{_≡_}
 use mathlib.Core.Bool.{Bool, not}
 use mathlib.Core.List.{[], _∷_, _++_, map, tail}

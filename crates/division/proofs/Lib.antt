@@ -7,3 +7,4 @@ pub mod DescentLaws
 pub mod Facade
 pub mod Examples
 pub mod RangeLaws
+pub mod FindLaws

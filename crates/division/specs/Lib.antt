@@ -4,3 +4,4 @@ pub mod Janet
 pub mod Scan
 pub mod Descent
 pub mod Ranges
+pub mod Operations

@@ -1,6 +1,6 @@
 // The descent (rule 6) over ascending rows. A group is a range of rows; stepping along one variable calls for the next
 // variable, which calls for stepping again.
-use terms::{exponent, RowNumber, Variable};
+use terms::{ascends, exponent, table_refusal, RowNumber, Variable};
 
 ghost use mathlib.Core.Path.{_≡_};
 ghost use Prim.Native.Nat.{ℕ, suc, _+_, _*_, _-_, _≤_, _<_};
@@ -8,7 +8,9 @@ ghost use lib.ListN.{length};
 ghost use Rattle.terms.specs.Monomials.{_!_, rowAt};
 ghost use Rattle.terms.specs.Rows.{rows};
 ghost use Rattle.terms.specs.Order.{Ascending};
+ghost use Rattle.terms.specs.Refusals.{refusal};
 ghost use Rattle.division.specs.Descent.{descent};
+ghost use Rattle.division.specs.Operations.{findChecks, FindPromise};
 ghost use Rattle.division.specs.Ranges.{GroupRange, FirstLarger, Between, Reached, Ready, after, descendFrom, descended};
 
 // What a descent found.
@@ -121,4 +123,45 @@ pub fn descend_table(n: usize, table: &[u8], query: &[u8]) -> Descended
         return Descended { found: Found::Nothing, steps: 0, ended: Variable(1) };
     }
     descend(table, n, query, Variable(1), RowNumber(0), RowNumber(count), 0)
+}
+
+// The answer of `find`: the Janet divisor's row number with the steps, none with the steps, or a refusal.
+pub enum FindAnswer {
+    Row(RowNumber, usize),
+    Nothing(usize),
+    Refused(u8),
+}
+
+// The number of the first of find's checks that refuses, 0 where none does.
+fn find_refusal(n: usize, table: &[u8], query: &[u8]) -> u8
+    ensures { λ r. ⌜ r ≡ refusal (findChecks n (now (table .entry)) (now (query .entry))) ⌝ }
+{
+    let refused = table_refusal(n, table);
+    if refused != 0 {
+        return refused;
+    }
+    if query.len() != n {
+        return 5;
+    }
+    if !ascends(n, table) {
+        return 6;
+    }
+    0
+}
+
+// The row number of the query's Janet divisor in the table, or none, with the number of exponents stepped on (rule 6).
+pub fn find(n: usize, table: &[u8], query: &[u8]) -> FindAnswer
+    ensures { λ r. ⌜ FindPromise n (now (table .entry)) (now (query .entry)) r ⌝ }
+{
+    let refused = find_refusal(n, table, query);
+    if refused != 0 {
+        return FindAnswer::Refused(refused);
+    }
+    let descent = descend_table(n, table, query);
+    let steps = descent.steps;
+    let found = descent.found;
+    match found {
+        Found::Row(row) => FindAnswer::Row(row, steps),
+        Found::Nothing => FindAnswer::Nothing(steps),
+    }
 }

@@ -1,0 +1,154 @@
+-- Laws of what `find` promises.
+--
+--   find-unique            two answers that the promise allows are equal
+--   find-accepts           where no check refuses: what rule 6's descent gives
+--   find-refuses           where one does: its number
+--   find-finds             an accepted find answers with the Janet divisor's row number, or with none where there is none
+--   find-steps             the steps are at most the degree of the query plus n
+--   refuses-table, refuses-length, refuses-order, refuses-none   the number of the first check that refuses
+--   find-ready, find-length   what is known of inputs that passed
+use mathlib.Core.Path.{_≡_, refl, sym, ap, _∙_, subst}
+use mathlib.Core.List.{List, [], _∷_, _++_, List·Memᴰ·head, List·Memᴰ·tail}
+use mathlib.Core.Option.{Option, none, some}
+use mathlib.Core.Logic.{by-cases}
+use Prim.Native.Nat.{ℕ, zero, suc, _+_, _≤_, _<_}
+use native.Mathlib.Nat.{not-suc-le-zero}
+use native.Mathlib.Decide.{ℕ-discrete}
+use native.Mathlib.Omega.{arith}
+use lib.ListN.{length}
+use Rattle.terms.specs.Tests.{decide}
+use Rattle.terms.specs.Monomials.{degree}
+use Rattle.terms.specs.Order.{Ascending}
+use Rattle.terms.specs.Rows.{rows}
+use Rattle.terms.specs.Refusals.{Check, Accepts, refusal, tableChecks}
+use Rattle.terms.proofs.OrderLaws.{tests-ascending}
+use Rattle.terms.proofs.RowsLaws.{rows-size}
+use Rattle.terms.proofs.RefusalLaws.{accepted, refusal-holds, refusal-passes, refusal-append, refusal-first, table-accepted}
+use Rattle.division.specs.Janet.{Multiplicative}
+use Rattle.division.specs.Scan.{Answers}
+use Rattle.division.specs.Descent.{Descent, descent}
+use Rattle.division.specs.Ranges.{Ready, foundRow, descended}
+use Rattle.division.specs.Operations.{NotAscending, lengthCheck, orderCheck, findChecks, findNumber, findRow, findSteps, findGives, findCase, findAnswer, FindPromise}
+use Rattle.division.proofs.DescentLaws.{descent-finds, descent-steps}
+use Rattle.division.specs.declared.finding.FindAnswer.{FindAnswer}
+use Rattle.division.specs.declared.finding.FindAnswer.the-variants.{Row, Nothing, Refused}
+use Rattle.division.specs.declared.finding.Found.the-variants as Found
+use Rattle.division.specs.declared.finding.Descended.{Descended}
+use Rattle.terms.specs.declared.RowNumber.{RowNumber}
+
+-- ---- one answer
+
+pub find-unique : {n : ℕ} {table query : List ℕ} {a b : FindAnswer} → FindPromise n table query a → FindPromise n table query b → a ≡ b
+find-unique p q = p .answers ∙ sym (q .answers)
+
+-- ---- accepted and refused
+
+gives-number : (o : Option ℕ) (steps : ℕ) → findNumber (findGives o steps) ≡ 0
+gives-number none steps = refl
+gives-number (some r) steps = refl
+
+gives-row : (o : Option ℕ) (steps : ℕ) → findRow (findGives o steps) ≡ o
+gives-row none steps = refl
+gives-row (some r) steps = refl
+
+gives-steps : (o : Option ℕ) (steps : ℕ) → findSteps (findGives o steps) ≡ steps
+gives-steps none steps = refl
+gives-steps (some r) steps = refl
+
+case-number : (m : ℕ) (d : Descent) → findNumber (findCase m d) ≡ m
+case-number zero d = gives-number (d .found) (d .steps)
+case-number (suc m) d = refl
+
+case-refused : (m : ℕ) (d : Descent) → 0 < m → findCase m d ≡ Refused m
+case-refused zero d p = absurd (not-suc-le-zero p)
+case-refused (suc m) d p = refl
+
+-- what the code's record holds decides the case
+row-given : (o : Option ℕ) (steps : ℕ) (r : RowNumber) (s : ℕ) → foundRow o ≡ Found.Row r → steps ≡ s → findGives o steps ≡ Row r s
+row-given none steps r s f e = absurd (let z : _≡_ {A = ℕ} 0 1 = cc in omega arith)
+row-given (some x) steps r s f e = cc
+
+nothing-given : (o : Option ℕ) (steps s : ℕ) → foundRow o ≡ Found.Nothing → steps ≡ s → findGives o steps ≡ Nothing s
+nothing-given none steps s f e = cc
+nothing-given (some x) steps s f e = absurd (let z : _≡_ {A = ℕ} 0 1 = cc in omega arith)
+
+-- the number is that of the answer
+find-make : {n : ℕ} {table query : List ℕ} {answer : FindAnswer} → answer ≡ findAnswer n table query → FindPromise n table query answer
+unfolding findAnswer
+find-make {n} {table} {query} e = record {
+  number = ap findNumber e ∙ case-number (refusal (findChecks n table query)) (descent n (rows n table) query);
+  answers = e;
+}
+
+module _ (n : ℕ) (table query : List ℕ) where
+  pub find-accepts : refusal (findChecks n table query) ≡ 0 → FindPromise n table query (findGives (descent n (rows n table) query .found) (descent n (rows n table) query .steps))
+  unfolding findAnswer
+  find-accepts e = find-make (ap (λ (m : ℕ). findCase m (descent n (rows n table) query)) (sym e))
+
+  pub find-refuses : 0 < refusal (findChecks n table query) → FindPromise n table query (Refused (refusal (findChecks n table query)))
+  unfolding findAnswer
+  find-refuses p = find-make (sym (case-refused (refusal (findChecks n table query)) (descent n (rows n table) query) p))
+
+  -- ---- the first check that refuses
+
+  pub refuses-table : 0 < refusal (tableChecks n table) → refusal (tableChecks n table) ≡ refusal (findChecks n table query)
+  refuses-table p = sym (refusal-first (tableChecks n table) (lengthCheck n query ∷ (orderCheck n table ∷ [])) p)
+
+  module _ (a : refusal (tableChecks n table) ≡ 0) where
+    own-checks : refusal (findChecks n table query) ≡ refusal (lengthCheck n query ∷ (orderCheck n table ∷ []))
+    own-checks = refusal-append (tableChecks n table) (lengthCheck n query ∷ (orderCheck n table ∷ [])) (accepted (tableChecks n table) a)
+
+    pub refuses-length : (length query ≡ n → ⊥) → 5 ≡ refusal (findChecks n table query)
+    refuses-length h = sym (own-checks ∙ refusal-holds (lengthCheck n query) (orderCheck n table ∷ []) h)
+
+    pub refuses-order : length query ≡ n → NotAscending n table → 6 ≡ refusal (findChecks n table query)
+    refuses-order e h = sym (own-checks ∙ refusal-passes (lengthCheck n query) (orderCheck n table ∷ []) (λ f. f e) ∙ refusal-holds (orderCheck n table) [] h)
+
+    pub refuses-none : length query ≡ n → Ascending (rows n table) → 0 ≡ refusal (findChecks n table query)
+    unfolding refusal
+    refuses-none e h = sym (own-checks ∙ refusal-passes (lengthCheck n query) (orderCheck n table ∷ []) (λ f. f e) ∙ refusal-passes (orderCheck n table) [] (λ f. f h))
+
+  -- ---- inputs that passed
+
+  table-passed : refusal (findChecks n table query) ≡ 0 → refusal (tableChecks n table) ≡ 0
+  table-passed e = by-cases (ℕ-discrete (refusal (tableChecks n table)) 0) (λ h. h) (λ g. absurd (omega (arith, refuses-table (omega arith))))
+
+  own-passed : refusal (findChecks n table query) ≡ 0 → Accepts (lengthCheck n query ∷ (orderCheck n table ∷ []))
+  own-passed e = accepted (lengthCheck n query ∷ (orderCheck n table ∷ [])) (sym (own-checks (table-passed e)) ∙ e)
+
+  pub find-length : refusal (findChecks n table query) ≡ 0 → length query ≡ n
+  find-length e = by-cases (ℕ-discrete (length query) n) (λ h. h) (λ g. absurd (own-passed e (lengthCheck n query) (List·Memᴰ·head refl) g))
+
+  pub find-ready : refusal (findChecks n table query) ≡ 0 → Ready n (rows n table)
+  find-ready e =
+      let t = table-accepted n table (accepted (tableChecks n table) (table-passed e)) in
+      record {
+        some = t .some;
+        few = t .few;
+        limited = t .limited;
+        ascends = by-cases (decide (tests-ascending (rows n table))) (λ h. h) (λ g. absurd (own-passed e (orderCheck n table) (List·Memᴰ·tail (List·Memᴰ·head refl)) g));
+      }
+
+  -- ---- the answer from what the code's descent gives
+
+  module _ (e : refusal (findChecks n table query) ≡ 0) (d : Descended) (is : d ≡ descended (descent n (rows n table) query)) where
+    pub find-row : (r : RowNumber) → d .found ≡ Found.Row r → FindPromise n table query (Row r (d .steps))
+    find-row r f = subst (λ (a : FindAnswer). FindPromise n table query a)
+        (row-given (descent n (rows n table) query .found) (descent n (rows n table) query .steps) r (d .steps) (cc) (cc))
+        (find-accepts e)
+
+    pub find-nothing : d .found ≡ Found.Nothing → FindPromise n table query (Nothing (d .steps))
+    find-nothing f = subst (λ (a : FindAnswer). FindPromise n table query a)
+        (nothing-given (descent n (rows n table) query .found) (descent n (rows n table) query .steps) (d .steps) (cc) (cc))
+        (find-accepts e)
+
+  -- ---- what an accepted find answers, in the words of rules 3 and 6
+
+  module _ (answer : FindAnswer) (p : FindPromise n table query answer) (e : refusal (findChecks n table query) ≡ 0) where
+    pub find-finds : Answers Multiplicative (rows n table) query (findRow answer)
+    find-finds = rw (ap findRow (find-unique p (find-accepts e)) ∙ gives-row (descent n (rows n table) query .found) (descent n (rows n table) query .steps))
+        (descent-finds (rows-size n table) query (find-length e))
+
+    pub find-steps : findSteps answer ≤ degree query + n
+    find-steps = rw (ap findSteps (find-unique p (find-accepts e)) ∙ gives-steps (descent n (rows n table) query .found) (descent n (rows n table) query .steps))
+        (descent-steps n (rows n table) query (find-length e))

@@ -4,4 +4,5 @@ pub mod ShareLaws
 pub mod CountLaws
 pub mod JanetCount
 pub mod PolynomialLaws
+pub mod PassLaws
 pub mod Examples

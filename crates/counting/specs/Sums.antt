@@ -2,14 +2,16 @@
 --
 --   sharesOf s G marks   the shares of the rows of G at s, row r with the marks of byte r
 --   signedSharesOf s G marks   the same with rule 8's shares
+--   Summable n table marks s   what a pass over the rows asks: the table's limits, s, and a byte of at most six marks a row
+--   Splits c z plus minus   z is plus less minus, and neither exceeds c times the largest binomial
 --   Marked n table marks   the bytes begin with Janet's marks of each row of the table
 --   Checked n table  what the checks leave: the table's limits, ascending rows, a complete table
 use mathlib.Core.Path.{_≡_}
 use mathlib.Core.List.{List, [], _∷_, _++_}
-use Prim.Native.Nat.{ℕ, _+_}
+use Prim.Native.Nat.{ℕ, _+_, _*_, _≤_, _<_}
 use lib.Count.{ones}
-use lib.ListN.{length, drop}
-use lib.IntN.{ℤ, pos, _+ℤ_}
+use lib.ListN.{length, getD, drop}
+use lib.IntN.{ℤ, pos, _+ℤ_, _-ℤ_}
 use Rattle.terms.specs.Monomials.{Table, degree}
 use Rattle.terms.specs.Order.{Ascending}
 use Rattle.terms.specs.Rows.{rows}
@@ -28,6 +30,18 @@ unfolding signedShare degree
 signedSharesOf s [] marks = pos 0
 signedSharesOf s (u ∷ G) [] = pos 0
 signedSharesOf s (u ∷ G) (b ∷ marks) = signedShare s (degree u) (ones b) +ℤ signedSharesOf s G marks
+
+pub record Summable (n : ℕ) (table marks : List ℕ) (s : ℕ) : Type 0 where
+  pub accepted : TableAccepted n table
+  pub low : s ≤ 300
+  pub marked : length (rows n table) ≤ length marks
+  pub few : (k : ℕ) → k < length (rows n table) → getD marks k 0 < 64
+
+-- 1,085,371,516,236 is C(306, 6)
+pub record Splits (c : ℕ) (z : ℤ) (plus minus : ℕ) : Type 0 where
+  pub difference : pos plus -ℤ pos minus ≡ z
+  pub plus-small : plus ≤ c * 1085371516236
+  pub minus-small : minus ≤ c * 1085371516236
 
 pub record Checked (n : ℕ) (table : List ℕ) : Type 0 where
   pub accepted : TableAccepted n table

@@ -1,5 +1,7 @@
-// Counts above the division.
+// Counts above the division (rules 7 to 9): count, polynomial and steady of a complete table.
 use terms::Degree;
+
+pub mod sums;
 
 // What `count` answers.
 pub enum CountAnswer {

@@ -1,0 +1,259 @@
+-- What the passes over the rows need, over plain lists and numbers.
+--
+--   degree-padded, degree-small   the degree of a padded row; no row of an accepted table has a degree above 300
+--   share-small      no share exceeds the largest binomial
+--   shares-next, shares-done, shares-marked   the sum of shares from a row on, at the end, and with Janet's marks
+--   signed-next, signed-done, signed-marked   the same with signs
+--   splits-..        what a share with a sign is, in each of its cases
+--   splits-add       sums of differences
+--   polynomial-split the polynomial as one difference
+--   summable         a checked and marked table can be summed
+--   count-sum, polynomial-sum   what the sums over a checked and marked table are
+--   small-fits, abs-difference  when a difference fits an i64
+--   steady-next, steady-done   the largest degree from a row on
+use mathlib.Core.Path.{_≡_, refl, sym, ap, ap₂, _∙_, subst}
+use mathlib.Core.Bool.{Bool, true, false, not}
+use mathlib.Core.List.{List, [], _∷_, _++_, map, List·Memᴰ}
+use mathlib.Core.Logic.{_⊎_, inl, inr, ⊎-elim, by-cases}
+use Prim.Native.Nat.{ℕ, zero, suc, _+_, _*_, _-_, _%_, _^_, _≤_, _<_, max}
+use native.Mathlib.Nat.{not-suc-le-zero, le-of-suc-le-suc}
+use native.Mathlib.Numerals.{add-one}
+use native.Mathlib.Decide.{decLe, decLt}
+use native.Mathlib.Omega.{arith}
+use borrow.Author.Tests.{lt-ltb}
+use lib.Count.{ones, ones-le}
+use lib.Dec.{T, ltb}
+use lib.Pow.{pow-mono}
+use lib.ListN.{length, getD, drop, length-append, drop-of-length-le, List·getD-append}
+use lib.Seq.{drop-cons}
+use mir.Syntax.{w64}
+use mir.Val.{SFits}
+use lib.IntN.{ℤ, pos, negsuc, negℤ, natAbs, subℕ, _+ℤ_, _-ℤ_, +ℤ-idl, +ℤ-idr, +ℤ-assoc, +ℤ-comm, negℤ-+ℤ, negℤ-negℤ, pos-+ℤ-pos}
+use Rattle.binomial.specs.Choose.{choose}
+use Rattle.binomial.proofs.ChooseLaws.{choose-within}
+use Rattle.terms.specs.Tests.{pick}
+use Rattle.terms.specs.Monomials.{Monomial, Table, _!_, rowAt, degree}
+use Rattle.terms.specs.Rows.{rows, padded}
+use Rattle.terms.proofs.MonomialLaws.{beyond, degree-le}
+use Rattle.terms.proofs.RowsLaws.{padded-at, entry-at, row-size, row-within, rows-size, member-at}
+use Rattle.terms.proofs.RefusalLaws.{TableAccepted}
+use Rattle.division.proofs.Facade.{multiplicativeTest, marksOf, tableMarks, marks-ones, marksOf-below, length-tableMarks, tableMarks-at}
+use Rattle.counting.specs.Counts.{sum, sumℤ, share, marksIn, oddTest, chooseℤ, signedShare, polynomialAt, steadyOf, countAt}
+use Rattle.counting.specs.Sums.{sharesOf, signedSharesOf, Summable, Splits, Checked, Marked}
+use Rattle.counting.proofs.ShareLaws.{share-inside, share-outside}
+use Rattle.counting.proofs.PolynomialLaws.{subℕ-pos}
+use Rattle.counting.proofs.JanetCount.{CountTable, janetShare, janet-count}
+
+-- ---- degrees
+
+pub degree-padded : (u : Monomial) → degree (padded u) ≡ degree u
+degree-padded u =
+    omega (arith, degree-le (padded u) u (λ i. omega (arith, padded-at u i)), degree-le u (padded u) (λ i. omega (arith, padded-at u i)))
+
+-- no exponent above 50
+degree-limit : (u : Monomial) → ((i : ℕ) → u ! i ≤ 50) → degree u ≤ length u * 50
+unfolding degree
+degree-limit [] h = omega arith
+degree-limit (a ∷ u) h = omega (arith, h 1, degree-limit u rest)
+  where
+    rest : (i : ℕ) → u ! i ≤ 50
+    rest zero = omega arith
+    rest (suc i) = h (suc (suc i))
+
+module _ (n : ℕ) (t : List ℕ) (a : TableAccepted n t) (k : ℕ) (l : k < length (rows n t)) where
+  entry-small : (i : ℕ) → rowAt (rows n t) k ! i ≤ 50
+  entry-small zero = omega arith
+  entry-small (suc i) = by-cases (decLt i n)
+      (λ h. omega (arith, entry-at n t k i l h, a .small (getD t (k * n + i) 0) (member-at t 0 (k * n + i) (omega (arith, row-within n t k l)))))
+      (λ g. omega (arith, beyond (rowAt (rows n t) k) (suc i) (omega (arith, row-size n t k l))))
+
+  pub degree-small : degree (rowAt (rows n t) k) ≤ 300
+  degree-small = omega (arith, degree-limit (rowAt (rows n t) k) entry-small, row-size n t k l, a .few)
+
+-- ---- the sum of shares
+
+pub share-small : (s d m : ℕ) → s ≤ 300 → m ≤ 6 → share s d m ≤ 1085371516236
+share-small s d m h g = by-cases (decLe d s)
+    (λ l. omega (arith, share-inside s d m l, choose-within (s - d + m) m g (omega arith)))
+    (λ f. omega (arith, share-outside s d m (omega arith)))
+
+-- a byte of six bits has at most six marks
+pub marks-few : (b : ℕ) → b < 64 → ones b ≤ 6
+marks-few b h = ones-le 6 b h
+
+module _ (s : ℕ) (G : Table) (marks : List ℕ) (k : ℕ) where
+  pub shares-next : k < length G → k < length marks → sharesOf s (drop k G) (drop k marks) ≡ share s (degree (rowAt G k)) (ones (getD marks k 0)) + sharesOf s (drop (k + 1) G) (drop (k + 1) marks)
+  unfolding sharesOf
+  shares-next h g = rw (add-one, drop-cons G k [], drop-cons marks k 0)
+
+  pub shares-done : length G ≤ k → sharesOf s (drop k G) (drop k marks) ≡ 0
+  unfolding sharesOf
+  shares-done h = rw (drop-of-length-le G h)
+
+  pub signed-next : k < length G → k < length marks → signedSharesOf s (drop k G) (drop k marks) ≡ signedShare s (degree (rowAt G k)) (ones (getD marks k 0)) +ℤ signedSharesOf s (drop (k + 1) G) (drop (k + 1) marks)
+  unfolding signedSharesOf
+  signed-next h g = rw (add-one, drop-cons G k [], drop-cons marks k 0)
+
+  pub signed-done : length G ≤ k → signedSharesOf s (drop k G) (drop k marks) ≡ pos 0
+  unfolding signedSharesOf
+  signed-done h = rw (drop-of-length-le G h)
+
+-- ---- Janet's marks
+
+ones-marks : (n : ℕ) (H : Table) (u : Monomial) → ones (marksOf n H u) ≡ marksIn n H u
+unfolding marksOf marksIn
+ones-marks n H u = marks-ones (multiplicativeTest H u) n
+
+shares-marks : (s n : ℕ) (H G : Table) (rest : List ℕ) → sharesOf s G (map (marksOf n H) G ++ rest) ≡ sum (janetShare n H s) G
+unfolding sharesOf sum
+shares-marks s n H [] rest = refl
+shares-marks s n H (u ∷ G) rest = ap₂ (λ (x y : ℕ). share s (degree u) x + y) (ones-marks n H u) (shares-marks s n H G rest)
+
+signed-marks : (s n : ℕ) (H G : Table) (rest : List ℕ) → signedSharesOf s G (map (marksOf n H) G ++ rest) ≡ sumℤ (λ u. signedShare s (degree u) (marksIn n H u)) G
+unfolding signedSharesOf sumℤ
+signed-marks s n H [] rest = refl
+signed-marks s n H (u ∷ G) rest = ap₂ (λ (x : ℕ) (y : ℤ). signedShare s (degree u) x +ℤ y) (ones-marks n H u) (signed-marks s n H G rest)
+
+module _ (n : ℕ) (t marks : List ℕ) (m : Marked n t marks) where
+  pub shares-marked : (s : ℕ) → sharesOf s (rows n t) marks ≡ sum (janetShare n (rows n t) s) (rows n t)
+  unfolding tableMarks
+  shares-marked s = ap (sharesOf s (rows n t)) (m .front) ∙ shares-marks s n (rows n t) (rows n t) (drop (length (rows n t)) marks)
+
+  pub signed-marked : (s : ℕ) → signedSharesOf s (rows n t) marks ≡ sumℤ (λ u. signedShare s (degree u) (marksIn n (rows n t) u)) (rows n t)
+  unfolding tableMarks
+  signed-marked s = ap (signedSharesOf s (rows n t)) (m .front) ∙ signed-marks s n (rows n t) (rows n t) (drop (length (rows n t)) marks)
+
+  marks-long : length (rows n t) ≤ length marks
+  marks-long = omega (arith, simp length-append at (ap length (m .front)), length-tableMarks n (rows n t))
+
+  mark-small : n ≤ 6 → (k : ℕ) → k < length (rows n t) → getD marks k 0 < 64
+  mark-small h k l =
+      let G = rows n t in
+      let e : getD marks k 0 ≡ getD (tableMarks n G ++ drop (length G) marks) k 0 = ap (λ (x : List ℕ). getD x k 0) (m .front) in
+      let f : getD (tableMarks n G ++ drop (length G) marks) k 0 ≡ getD (tableMarks n G) k 0 = List·getD-append (tableMarks n G) (drop (length G) marks) 0 k (omega (arith, length-tableMarks n G)) in
+      omega (arith, tableMarks-at n G k l, marksOf-below n G (rowAt G k), pow-mono {i = n} {j = 6} h)
+
+  pub summable : (s : ℕ) → Checked n t → s ≤ 300 → Summable n t marks s
+  summable s c h = record { accepted = c .accepted; low = h; marked = marks-long; few = mark-small (c .accepted .few) }
+
+-- ---- a share with a sign, by its cases
+
+-- a number is even or odd
+parity : (m : ℕ) → ((m % 2 ≡ 0) × (oddTest m ≡ false)) ⊎ ((m % 2 ≡ 1) × (oddTest m ≡ true))
+unfolding oddTest
+parity zero = inl (refl, refl)
+parity (suc m) = ⊎-elim (λ p. inr (omega (arith, p .0), ap not (p .1))) (λ p. inl (omega (arith, p .0), ap not (p .1))) (parity m)
+
+odd-odd : (m : ℕ) → m % 2 ≡ 1 → oddTest m ≡ true
+odd-odd m h = ⊎-elim (λ p. absurd (omega (arith, p .0))) (λ p. p .1) (parity m)
+
+odd-even : (m : ℕ) → (m % 2 ≡ 1 → ⊥) → oddTest m ≡ false
+odd-even m h = ⊎-elim (λ p. p .1) (λ p. absurd (h (p .0))) (parity m)
+
+subℕ-neg : (a b : ℕ) → a < b → subℕ a b ≡ negsuc (b - suc a)
+subℕ-neg a b h = rw (lt-ltb a b h)
+
+module _ (s d m : ℕ) (low : s ≤ 300) (few : m ≤ 6) where
+  pub splits-plus : d ≤ s + m → Splits 1 (signedShare s d m) (choose (s + m - d) m) 0
+  unfolding signedShare chooseℤ
+  splits-plus h = record {
+    difference = +ℤ-idr (pos (choose (s + m - d) m)) ∙ sym (ap (λ (t : ℤ). chooseℤ t m) (subℕ-pos (s + m) d h));
+    plus-small = omega (arith, choose-within (s + m - d) m few (omega arith));
+    minus-small = omega arith;
+  }
+
+  module _ (small : d ≤ 300) (above : s + m < d) where
+    negative : signedShare s d m ≡ pick (oddTest m) (negℤ (pos (choose (d - s - 1) m))) (pos (choose (d - s - 1) m))
+    unfolding signedShare chooseℤ
+    negative =
+        let e : m + (d - suc (s + m)) ≡ d - s - 1 = omega arith in
+        ap (λ (t : ℤ). chooseℤ t m) (subℕ-neg (s + m) d above)
+        ∙ ap (λ (x : ℕ). pick (oddTest m) (negℤ (pos (choose x m))) (pos (choose x m))) e
+
+    pub splits-odd : m % 2 ≡ 1 → Splits 1 (signedShare s d m) 0 (choose (d - s - 1) m)
+    splits-odd h = record {
+      difference = +ℤ-idl (negℤ (pos (choose (d - s - 1) m))) ∙ sym (negative ∙ rw (odd-odd m h));
+      plus-small = omega arith;
+      minus-small = omega (arith, choose-within (d - s - 1) m few (omega arith));
+    }
+
+    pub splits-even : (m % 2 ≡ 1 → ⊥) → Splits 1 (signedShare s d m) (choose (d - s - 1) m) 0
+    splits-even h = record {
+      difference = +ℤ-idr (pos (choose (d - s - 1) m)) ∙ sym (negative ∙ rw (odd-even m h));
+      plus-small = omega (arith, choose-within (d - s - 1) m few (omega arith));
+      minus-small = omega arith;
+    }
+
+-- ---- sums of differences
+
+middle : (a b c d : ℤ) → (a +ℤ b) +ℤ (c +ℤ d) ≡ (a +ℤ c) +ℤ (b +ℤ d)
+middle a b c d =
+    +ℤ-assoc a b (c +ℤ d)
+    ∙ ap (λ (x : ℤ). a +ℤ x) (sym (+ℤ-assoc b c d) ∙ ap (λ (x : ℤ). x +ℤ d) (+ℤ-comm b c) ∙ +ℤ-assoc c b d)
+    ∙ sym (+ℤ-assoc a c (b +ℤ d))
+
+difference-add : (p m a b : ℕ) → pos (p + a) -ℤ pos (m + b) ≡ (pos p -ℤ pos m) +ℤ (pos a -ℤ pos b)
+difference-add p m a b =
+    ap₂ (λ (x y : ℤ). x -ℤ y) (sym (pos-+ℤ-pos p a)) (sym (pos-+ℤ-pos m b))
+    ∙ ap (λ (x : ℤ). (pos p +ℤ pos a) +ℤ x) (negℤ-+ℤ (pos m) (pos b))
+    ∙ middle (pos p) (pos a) (negℤ (pos m)) (negℤ (pos b))
+
+-- one share more: `rest` is what the rows behind it sum to
+pub splits-add : (p m a b : ℕ) (one rest all : ℤ) → (pos p -ℤ pos m) +ℤ (one +ℤ rest) ≡ all → pos a -ℤ pos b ≡ one → (pos (p + a) -ℤ pos (m + b)) +ℤ rest ≡ all
+splits-add p m a b one rest all e f =
+    ap (λ (x : ℤ). x +ℤ rest) (difference-add p m a b ∙ ap (λ (x : ℤ). (pos p -ℤ pos m) +ℤ x) f)
+    ∙ +ℤ-assoc (pos p -ℤ pos m) one rest
+    ∙ e
+
+-- taking away a difference
+pub polynomial-split : (all plus minus : ℕ) (z : ℤ) → pos plus -ℤ pos minus ≡ z → pos (all + minus) -ℤ pos plus ≡ pos all -ℤ z
+polynomial-split all plus minus z e =
+    ap (λ (x : ℤ). x -ℤ pos plus) (sym (pos-+ℤ-pos all minus))
+    ∙ +ℤ-assoc (pos all) (pos minus) (negℤ (pos plus))
+    ∙ ap (λ (x : ℤ). pos all +ℤ x) (
+    +ℤ-comm (pos minus) (negℤ (pos plus))
+    ∙ ap (λ (x : ℤ). negℤ (pos plus) +ℤ x) (sym (negℤ-negℤ (pos minus)))
+    ∙ sym (negℤ-+ℤ (pos plus) (negℤ (pos minus)))
+    ∙ ap negℤ e)
+
+-- ---- what the sums are
+
+-- the table that is counted
+counted : (n : ℕ) (t : List ℕ) → Checked n t → CountTable n (rows n t)
+counted n t c = record { size = rows-size n t; complete = c .complete; ascending = c .ascending }
+
+module _ (n : ℕ) (t marks : List ℕ) (c : Checked n t) (m : Marked n t marks) (s : ℕ) where
+  -- rule 7
+  pub count-sum : choose (n + s) n ≡ countAt n (rows n t) s + sharesOf s (rows n t) marks
+  count-sum = omega (arith, janet-count n (rows n t) (counted n t c) s, shares-marked n t marks m s)
+
+  -- rule 8
+  pub polynomial-sum : (plus minus : ℕ) → pos plus -ℤ pos minus ≡ signedSharesOf s (rows n t) marks → pos (choose (n + s) n + minus) -ℤ pos plus ≡ polynomialAt n (rows n t) s
+  unfolding polynomialAt
+  polynomial-sum plus minus e = polynomial-split (choose (n + s) n) plus minus _ (e ∙ signed-marked n t marks m s)
+
+-- ---- sizes of signed numbers
+
+-- what is small fits
+pub small-fits : (z : ℤ) → natAbs z < 9223372036854775808 → SFits w64 z
+small-fits (pos n) h = record { sfits = omega arith }
+small-fits (negsuc n) h = record { sfits = omega arith }
+
+abs-subℕ : (a b : ℕ) → natAbs (subℕ a b) ≤ a + b
+abs-subℕ a b = by-cases (decLt a b)
+    (λ h. omega (arith, ap natAbs (subℕ-neg a b h)))
+    (λ g. omega (arith, ap natAbs (subℕ-pos a b (omega arith))))
+
+pub abs-difference : (a b : ℕ) → natAbs (pos a -ℤ pos b) ≤ a + b
+abs-difference a zero = omega (arith, ap natAbs (+ℤ-idr (pos a)))
+abs-difference a (suc b) = abs-subℕ a (suc b)
+
+-- ---- the largest degree
+
+pub steady-next : (G : Table) (k : ℕ) → k < length G → steadyOf (drop k G) ≡ max (degree (rowAt G k)) (steadyOf (drop (k + 1) G))
+unfolding steadyOf
+steady-next G k h = rw (add-one, drop-cons G k [])
+
+pub steady-done : (G : Table) (k : ℕ) → length G ≤ k → steadyOf (drop k G) ≡ 0
+unfolding steadyOf
+steady-done G k h = rw (drop-of-length-le G h)

@@ -1,0 +1,138 @@
+// The sums over the rows of a checked table, without the checks: a caller that wants many degrees of one table checks once.
+use binomial::choose;
+use terms::{degree_of, row_at, Degree, RowNumber};
+
+ghost use mathlib.Core.Path.{_≡_};
+ghost use Prim.Native.Nat.{ℕ, _+_, _≤_, _<_};
+ghost use lib.ListN.{length};
+ghost use lib.IntN.{pos, _-ℤ_};
+ghost use Rattle.terms.specs.Monomials.{rowAt, degree};
+ghost use Rattle.terms.specs.Rows.{rows};
+ghost use Rattle.counting.specs.Counts.{countAt, share, signedShare, polynomialAt, steadyOf};
+ghost use Rattle.counting.specs.Sums.{Summable, Checked, Marked, Splits, sharesOf, signedSharesOf};
+
+// A share of rule 8, or a sum of such shares: what counts for it, and what counts against it.
+pub struct SignedShare {
+    pub plus: u64,
+    pub minus: u64,
+}
+
+// The degree of row k.
+fn row_degree(table: &[u8], n: usize, k: RowNumber) -> Degree
+    requires { ⌜ (n ≤ 6) × (k .0 < length (rows n (now table))) ⌝ }
+    ensures { λ r. ⌜ r .0 ≡ degree (rowAt (rows n (now (table .entry))) (k .0)) ⌝ }
+{
+    degree_of(row_at(table, n, k))
+}
+
+// What a row of degree d with m marks takes away at s (rule 7).
+fn share(s: Degree, d: Degree, m: usize) -> u64
+    requires { ⌜ (s .0 ≤ 300) × (m ≤ 6) ⌝ }
+    ensures { λ r. ⌜ r ≡ share (s .0) (d .0) m ⌝ }
+{
+    let most = s.0;
+    let own = d.0;
+    if most < own {
+        return 0;
+    }
+    choose(most - own + m, m)
+}
+
+// The shares of all rows, whose marks stand in `marks`, a byte a row.
+fn shares(n: usize, table: &[u8], marks: &[u8], s: Degree) -> u64
+    requires { ⌜ Summable n (now table) (now marks) (s .0) ⌝ }
+    ensures { λ r. ⌜ r ≡ sharesOf (s .0) (rows n (now (table .entry))) (now (marks .entry)) ⌝ }
+{
+    let count = table.len() / n;
+    let mut sum: u64 = 0;
+    let mut k = 0;
+    while k < count {
+        let m = u8::count_ones(marks[k]) as usize;
+        sum += share(s, row_degree(table, n, RowNumber(k)), m);
+        k += 1;
+    }
+    sum
+}
+
+// The count at s (rule 7) of a table that was checked and marked.
+pub fn count_sum(n: usize, table: &[u8], marks: &[u8], s: Degree) -> u64
+    requires { ⌜ Checked n (now table) × Marked n (now table) (now marks) × (s .0 ≤ 300) ⌝ }
+    ensures { λ r. ⌜ r ≡ countAt n (rows n (now (table .entry))) (s .0) ⌝ }
+{
+    let most = s.0;
+    choose(n + most, n) - shares(n, table, marks, s)
+}
+
+// The share of a row of degree d with m marks at s, no row left out (rule 8).
+fn signed_share(s: Degree, d: Degree, m: usize) -> SignedShare
+    requires { ⌜ (s .0 ≤ 300) × (d .0 ≤ 300) × (m ≤ 6) ⌝ }
+    ensures { λ r. ⌜ Splits 1 (signedShare (s .0) (d .0) m) (r .plus) (r .minus) ⌝ }
+{
+    let most = s.0;
+    let own = d.0;
+    if own <= most + m {
+        return SignedShare { plus: choose(most + m - own, m), minus: 0 };
+    }
+    let size = choose(own - most - 1, m);
+    if m % 2 == 1 {
+        return SignedShare { plus: 0, minus: size };
+    }
+    SignedShare { plus: size, minus: 0 }
+}
+
+// The shares of all rows, no row left out.
+fn signed_shares(n: usize, table: &[u8], marks: &[u8], s: Degree) -> SignedShare
+    requires { ⌜ Summable n (now table) (now marks) (s .0) ⌝ }
+    ensures { λ r. ⌜ Splits (length (rows n (now (table .entry)))) (signedSharesOf (s .0) (rows n (now (table .entry))) (now (marks .entry))) (r .plus) (r .minus) ⌝ }
+{
+    let count = table.len() / n;
+    let mut plus: u64 = 0;
+    let mut minus: u64 = 0;
+    let mut k = 0;
+    while k < count {
+        let m = u8::count_ones(marks[k]) as usize;
+        let one = signed_share(s, row_degree(table, n, RowNumber(k)), m);
+        plus += one.plus;
+        minus += one.minus;
+        k += 1;
+    }
+    SignedShare { plus, minus }
+}
+
+// One number less another, with its sign.
+fn difference(plus: u64, minus: u64) -> i64
+    requires { ⌜ (plus < 4611686018427387904) × (minus < 4611686018427387904) ⌝ }
+    ensures { λ r. ⌜ r ≡ pos plus -ℤ pos minus ⌝ }
+{
+    (plus as i64) - (minus as i64)
+}
+
+// The polynomial at s (rule 8) of a table that was checked and marked.
+pub fn polynomial_sum(n: usize, table: &[u8], marks: &[u8], s: Degree) -> i64
+    requires { ⌜ Checked n (now table) × Marked n (now table) (now marks) × (s .0 ≤ 300) ⌝ }
+    ensures { λ r. ⌜ r ≡ polynomialAt n (rows n (now (table .entry))) (s .0) ⌝ }
+{
+    let most = s.0;
+    let all = choose(n + most, n);
+    let taken = signed_shares(n, table, marks, s);
+    difference(all + taken.minus, taken.plus)
+}
+
+// The largest degree of a row (rule 9).
+pub fn steady_sum(n: usize, table: &[u8]) -> Degree
+    requires { ⌜ (0 < n) × (n ≤ 6) ⌝ }
+    ensures { λ r. ⌜ r .0 ≡ steadyOf (rows n (now (table .entry))) ⌝ }
+{
+    let count = table.len() / n;
+    let mut largest: usize = 0;
+    let mut k = 0;
+    while k < count {
+        let own = row_degree(table, n, RowNumber(k));
+        let degree = own.0;
+        if largest < degree {
+            largest = degree;
+        }
+        k += 1;
+    }
+    Degree(largest)
+}

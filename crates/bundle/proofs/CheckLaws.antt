@@ -26,7 +26,10 @@ use Rattle.terms.proofs.RefusalLaws.{refusal-holds, refusal-passes, refusal-app
 use Rattle.bundle.specs.Some.{SomeBelow, someBelow}
 use Rattle.bundle.specs.Format.{byteAt, number16, variablesOf, tableCount, headerLength, rowCount, offsetOf, bodyLength, placeOf, bodyOf}
 use Rattle.bundle.specs.Checks.{NoFrame, numberChecks, openChecks, frameChecks, tableChecksOf, tablesChecks, remainChecks, layoutChecks, entryChecks, bundleChecks, largeEntryTest, tests-largeEntry}
-use Rattle.bundle.specs.Operation.{opened, LocatePromise}
+use Rattle.bundle.specs.Operation.{opened, LocatePromise, FoundWithin, PartOf, OpenPromise}
+use Rattle.bundle.specs.declared.Located.{Located}
+use Rattle.bundle.specs.declared.OpenedTable.{OpenedTable}
+use denote.Ref.{RefT, now, ptr}
 
 -- ---- lists of checks
 
@@ -326,13 +329,15 @@ pub record Accepted (b : List ℕ) : Type 0 where
   pub layout : Laid b
   pub small : (j e : ℕ) → j < tableCount b → List·Memᴰ e (bodyOf b j) → e ≤ 50
 
-pub accepted-bundle : (b : List ℕ) → refusal (bundleChecks b) ≡ 0 → Accepted b
-accepted-bundle b e =
-    let a = accepted (bundleChecks b) e in
+accepted-by : (b : List ℕ) → Accepts (bundleChecks b) → Accepted b
+accepted-by b a =
     record {
       layout = laid-accepts b (accepts-left (layoutChecks b) (entryChecks b) a);
       small = λ j x h m. by-cases (decLe x 50) (λ l. l) (λ g. absurd (accepts-right (layoutChecks b) (entryChecks b) a _ (List·Memᴰ·head refl) (j, h, (x, m, omega arith))));
     }
+
+pub accepted-bundle : (b : List ℕ) → refusal (bundleChecks b) ≡ 0 → Accepted b
+accepted-bundle b e = accepted-by b (accepted (bundleChecks b) e)
 
 -- ---- the reader
 
@@ -390,3 +395,54 @@ module _ (b : List ℕ) (j : ℕ) where
         count = r ∙ sym (opened-is b j _ 0 (sym p));
         begins = o ∙ t .begins ∙ sym (opened-is b j _ 0 (sym p));
       }
+
+-- where table j is opened the bundle is accepted, and has a table j
+pub open-accepted : (b : List ℕ) (j : ℕ) → refusal (openChecks b j) ≡ 0 → Accepted b × (j < tableCount b)
+open-accepted b j e =
+    let a = accepted (openChecks b j) e in
+    (accepted-by b (accepts-left (bundleChecks b) (numberChecks b j) a),
+    by-cases (decLe (tableCount b) j) (λ h. absurd (accepts-right (bundleChecks b) (numberChecks b j) a _ (List·Memᴰ·head refl) h)) (λ h. omega arith))
+
+-- what is found lies within the bundle: the body of a table, or nothing at its start
+module _ (b : List ℕ) (j : ℕ) (f : Located) (p : LocatePromise b j f) where
+  zero-sized : (refusal (openChecks b j) ≡ 0 → ⊥) → (f .n ≡ 0) × (f .rows ≡ 0) × (f .place ≡ 0)
+  zero-sized g =
+      let m = refusal (openChecks b j) in
+      (p .variables ∙ refused-is b j _ 0 m refl g, p .count ∙ refused-is b j _ 0 m refl g, p .begins ∙ refused-is b j _ 0 m refl g)
+
+  pub found-within : FoundWithin b f
+  found-within = by-cases (ℕ-discrete (refusal (openChecks b j)) 0)
+      (λ e.
+      let a = open-accepted b j e in
+      let w = a .0 .layout .tables j (a .1) .within in
+      rw (p .begins, p .count, p .variables, opened-is b j (placeOf b j) 0 e, opened-is b j (rowCount b j) 0 e, opened-is b j (variablesOf b) 0 e) w)
+      (λ g.
+      let z = zero-sized g in
+      rw (z .2, z .1, z .0) (omega arith))
+
+  size-is : f .rows * f .n ≡ opened b j (bodyLength b j) 0
+  size-is = by-cases (ℕ-discrete (refusal (openChecks b j)) 0)
+      (λ e. rw (p .count, p .variables, opened-is b j (rowCount b j) 0 e, opened-is b j (variablesOf b) 0 e, opened-is b j (bodyLength b j) 0 e))
+      (λ g.
+      let z = zero-sized g in
+      rw (z .1, z .0) (sym (refused-is b j (bodyLength b j) 0 (refusal (openChecks b j)) refl g)))
+
+  -- the part that is cut is the table's body, or empty
+  pub body-shown : take (f .rows * f .n) (drop (f .place) b) ≡ opened b j (bodyOf b j) []
+  body-shown = by-cases (ℕ-discrete (refusal (openChecks b j)) 0)
+      (λ e. rw (size-is, p .begins, opened-is b j (bodyLength b j) 0 e, opened-is b j (placeOf b j) 0 e, opened-is b j (bodyOf b j) [] e))
+      (λ g.
+      let m = refusal (openChecks b j) in
+      rw (size-is, refused-is b j (bodyLength b j) 0 m refl g, refused-is b j (bodyOf b j) [] m refl g))
+
+-- so a table that is located and cut is opened
+pub opens : (b : RefT (List ℕ)) (j : ℕ) (f : Located) (r : RefT (List ℕ)) → LocatePromise (now b) j f → PartOf b (f .place) (f .rows * f .n) r
+    → OpenPromise b j (record { bytes = r; n = f .n; rows = f .rows; refusal = f .refusal })
+opens b j f r p c = record {
+  number = p .number;
+  variables = p .variables;
+  count = p .count;
+  shown = c .bytes ∙ body-shown (now b) j f p;
+  block = c .block;
+  begins = c .place-in ∙ rw (p .begins);
+}

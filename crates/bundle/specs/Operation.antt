@@ -4,6 +4,7 @@
 --   LocatePromise b j r   `locate`: refusal, n, row count and place of table j of b
 --   FoundWithin b r  what was found lies within b
 --   PartOf b place size r   r shows the part of b that begins at the place and has that size
+--   SameOpened r s   two opened tables are the same: the same numbers, and the same part of the same memory
 --   OpenPromise b j r   `open table j`: the part of b that table j is, with its n and row count
 use mathlib.Core.Path.{_≡_}
 use mathlib.Core.List.{List, []}
@@ -46,3 +47,12 @@ pub record OpenPromise (b : RefT (List ℕ)) (j : ℕ) (r : OpenedTable) : Type 
   pub shown : now (r .bytes) ≡ opened (now b) j (bodyOf (now b) j) []
   pub block : ptr (r .bytes) .0 ≡ ptr b .0
   pub begins : ptr (r .bytes) .1 ≡ opened (now b) j (placeOf (now b) j) 0 + ptr b .1
+
+-- two opened tables are the same: numbers, bytes, and where these stand
+pub record SameOpened (r s : OpenedTable) : Type 0 where
+  pub number : r .refusal ≡ s .refusal
+  pub variables : r .n ≡ s .n
+  pub count : r .rows ≡ s .rows
+  pub shown : now (r .bytes) ≡ now (s .bytes)
+  pub block : ptr (r .bytes) .0 ≡ ptr (s .bytes) .0
+  pub place : ptr (r .bytes) .1 ≡ ptr (s .bytes) .1

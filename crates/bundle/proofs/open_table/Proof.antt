@@ -45,7 +45,7 @@ use denote.Triple.Clauses.{ensured, lasts}
 use Rattle.bundle.specs.Operation.{LocatePromise, FoundWithin, PartOf, OpenPromise}
 use Rattle.bundle.specs.declared.Located.{Located}
 use Rattle.bundle.specs.declared.OpenedTable.{OpenedTable}
-use Rattle.bundle.proofs.CheckLaws.{found-within, opens}
+use Rattle.bundle.proofs.ReadLaws.{found-within, opens}
 use Rattle.bundle.proofs.OpenedTable as T
 use Rattle.bundle.proofs.OpenedTable.Laws as T′
 use Rattle.bundle.proofs.Located as S

@@ -1,32 +1,26 @@
 -- Laws of the bundle's checks: what the code asks, step by step, is the list of checks in its order.
 --
---   Framed, framed           what passed 9 and 1
---   bytes-.., variables-..   which condition of the frame a test of the code is
---   tables-next              the checks from table j on are those of table j and those from table j + 1 on
---   refuses-here, goes-on, past-last   the loop over the tables
---   Laid, laid               what passed the layout
---   entries-here             4 over all bodies is one pass over what stands behind the header
---   Accepted, accepted-bundle   what an accepted bundle is known to be
+--   refuses-first, passes-first   the refusal of a list in two parts
+--   Framed, framed           what is known of a bundle that passed 9 and 1
+--   frame-nine, frame-one, frame-passes   which check of the frame refuses
+--   table-three, table-ten, table-eleven, table-passes   which check of one table refuses
+--   TableLaid, table-laid    what is known of a table that passed 3, 10 and 11
+--   refuses-here, goes-on, past-last   the checks from table j on
+--   Passed, passed-..        the loop over the tables
 use mathlib.Core.Path.{_≡_, refl, sym, ap, _∙_, subst}
-use mathlib.Core.Bool.{Bool, true, false, _||_}
-use mathlib.Core.List.{List, [], _∷_, _++_, append-assoc, List·Memᴰ, List·Memᴰ·head, List·Memᴰ·tail, Memᴰ·append-left, Memᴰ·append-right, List·Memᴰ·append-cases, List·Memᴰ·cases-cons, List·Memᴰ·not-nil}
-use mathlib.Core.Logic.{_⊎_, inl, inr, ⊎-elim, by-cases}
+use mathlib.Core.List.{List, [], _++_, append-assoc, List·Memᴰ·head, List·Memᴰ·tail, Memᴰ·append-left, Memᴰ·append-right}
+use mathlib.Core.Logic.{inl, inr, ⊎-elim, by-cases}
 use Prim.Native.Nat.{ℕ, zero, suc, _+_, _*_, _-_, _≤_, _<_}
 use native.Mathlib.Nat.{mul-le-mul, pos-of-ne-zero}
 use native.Mathlib.Numerals.{add-one}
-use native.Mathlib.Decide.{decLe, decLt, ℕ-discrete}
+use native.Mathlib.Decide.{decLt, ℕ-discrete}
 use native.Mathlib.Omega.{arith}
-use lib.Dec.{ltb}
-use lib.ListN.{length, getD, take, drop, take-append-drop, drop-of-length-le, length-drop}
-use lib.Seq.{drop-drop, take-all}
-use borrow.Author.Tests.{ne-eqb}
-use Rattle.terms.specs.Tests.{Tests, any, decide, true-tests, false-tests, tests-le, tests-lt, tests-and, tests-same}
-use Rattle.terms.specs.Refusals.{Check, refusal, Accepts, NotOneToSix, EntryAbove50, tests-entryAbove50}
+use lib.ListN.{length}
+use Rattle.terms.specs.Tests.{decide, tests-le, tests-lt, tests-and}
+use Rattle.terms.specs.Refusals.{Check, refusal, Accepts, NotOneToSix}
 use Rattle.terms.proofs.RefusalLaws.{refusal-holds, refusal-passes, refusal-append, refusal-first, accepted}
-use Rattle.bundle.specs.Some.{SomeBelow, someBelow}
-use Rattle.bundle.specs.Format.{byteAt, number16, variablesOf, tableCount, headerLength, rowCount, offsetOf, bodyLength, placeOf, bodyOf}
-use Rattle.bundle.specs.Checks.{NoFrame, numberChecks, openChecks, frameChecks, tableChecksOf, tablesChecks, remainChecks, layoutChecks, entryChecks, bundleChecks, largeEntryTest, tests-largeEntry}
-use Rattle.bundle.specs.Operation.{opened, LocatePromise}
+use Rattle.bundle.specs.Format.{number16, variablesOf, tableCount, headerLength, rowCount, offsetOf, bodyLength, placeOf}
+use Rattle.bundle.specs.Checks.{NoFrame, frameChecks, tableChecksOf, tablesChecks, remainChecks}
 
 -- ---- lists of checks
 
@@ -43,10 +37,10 @@ pub passes-first : (checks more : List Check) (m : ℕ) → refusal checks ≡ 0
 passes-first checks more m e h = h ∙ sym (refusal-append checks more (accepted checks e))
 
 -- what passes a list passes each part
-accepts-left : (checks more : List Check) → Accepts (checks ++ more) → Accepts checks
+pub accepts-left : (checks more : List Check) → Accepts (checks ++ more) → Accepts checks
 accepts-left checks more a c m = a c (Memᴰ·append-left more m)
 
-accepts-right : (checks more : List Check) → Accepts (checks ++ more) → Accepts more
+pub accepts-right : (checks more : List Check) → Accepts (checks ++ more) → Accepts more
 accepts-right checks more a c m = a c (Memᴰ·append-right checks m)
 
 -- ---- the frame
@@ -74,7 +68,7 @@ framed-by b f g =
       fewVariables = by-cases variables (λ h. h .1) (λ h. absurd (g h));
     }
 
-framed-accepts : (b : List ℕ) → Accepts (frameChecks b) → Framed b
+pub framed-accepts : (b : List ℕ) → Accepts (frameChecks b) → Framed b
 framed-accepts b a = framed-by b (a _ (List·Memᴰ·head refl)) (a _ (List·Memᴰ·tail (List·Memᴰ·head refl)))
 
 pub framed : (b : List ℕ) → refusal (frameChecks b) ≡ 0 → Framed b
@@ -225,168 +219,9 @@ module _ (b : List ℕ) (k : ℕ) (count : k ≡ tableCount b) where
         sym (p .same ∙ past-last b j k (remainChecks b) h ∙ refusal-passes _ _ r ∙ refusal-none)
 
 -- where the checks of the tables j to j + m − 1 pass, each of these tables is laid
-tables-laid : (b : List ℕ) (m j : ℕ) → Accepts (tablesChecks b j m) → (i : ℕ) → j ≤ i → i < j + m → TableLaid b i
+pub tables-laid : (b : List ℕ) (m j : ℕ) → Accepts (tablesChecks b j m) → (i : ℕ) → j ≤ i → i < j + m → TableLaid b i
 unfolding tablesChecks
 tables-laid b zero j a i g h = absurd (omega arith)
 tables-laid b (suc m) j a i g h = by-cases (ℕ-discrete j i)
     (λ e. subst (TableLaid b) e (table-laid-accepts b j (accepts-left (tableChecksOf b j) (tablesChecks b (suc j) m) a)))
     (λ f. tables-laid b m (suc j) (accepts-right (tableChecksOf b j) (tablesChecks b (suc j) m) a) i (omega arith) (omega arith))
-
--- ---- the layout
-
-pub record Laid (b : List ℕ) : Type 0 where
-  pub frame : Framed b
-  pub tables : (j : ℕ) → j < tableCount b → TableLaid b j
-  pub ends : length b ≡ placeOf b (tableCount b)
-
--- the last body ends within the bundle
-last-within : (b : List ℕ) (k : ℕ) → 0 < k → ((j : ℕ) → j < k → TableLaid b j) → placeOf b k ≤ length b
-unfolding placeOf
-last-within b zero p f = absurd (omega arith)
-last-within b (suc k) p f = f k (omega arith) .within
-
-laid-accepts : (b : List ℕ) → Accepts (layoutChecks b) → Laid b
-laid-accepts b a =
-    let rest = tablesChecks b 0 (tableCount b) ++ remainChecks b in
-    let frame = framed-accepts b (accepts-left (frameChecks b) rest a) in
-    let later = accepts-right (frameChecks b) rest a in
-    let each : (j : ℕ) → j < tableCount b → TableLaid b j = λ j h. tables-laid b (tableCount b) 0 (accepts-left (tablesChecks b 0 (tableCount b)) (remainChecks b) later) j (omega arith) (omega arith) in
-    let last = last-within b (tableCount b) (frame .someTables) each in
-    record {
-      frame = frame;
-      tables = each;
-      ends = by-cases (decLt (placeOf b (tableCount b)) (length b))
-          (λ h. absurd (accepts-right (tablesChecks b 0 (tableCount b)) (remainChecks b) later _ (List·Memᴰ·head refl) h))
-          (λ h. omega arith);
-    }
-
-pub laid : (b : List ℕ) → refusal (layoutChecks b) ≡ 0 → Laid b
-laid b e = laid-accepts b (accepted (layoutChecks b) e)
-
--- ---- 4 over all bodies
-
-member-take : (n e : ℕ) (l : List ℕ) → List·Memᴰ e (take n l) → List·Memᴰ e l
-member-take n e l m = subst (List·Memᴰ e) (take-append-drop n l) (Memᴰ·append-left (drop n l) m)
-
-member-drop : (n e : ℕ) (l : List ℕ) → List·Memᴰ e (drop n l) → List·Memᴰ e l
-member-drop n e l m = subst (List·Memᴰ e) (take-append-drop n l) (Memᴰ·append-right (take n l) m)
-
--- no body begins before the header's end
-pub place-from : (b : List ℕ) (j : ℕ) → headerLength b ≤ placeOf b j
-unfolding placeOf
-place-from b zero = omega arith
-place-from b (suc j) = omega (arith, place-from b j)
-
--- what stands from body j on is body j and what stands from the next on
-from-place : (b : List ℕ) (j : ℕ) → drop (placeOf b j) b ≡ bodyOf b j ++ drop (placeOf b (suc j)) b
-unfolding placeOf
-from-place b j =
-    sym (take-append-drop (bodyLength b j) (drop (placeOf b j) b))
-    ∙ ap (λ (l : List ℕ). bodyOf b j ++ l) (drop-drop (bodyLength b j) (placeOf b j) b)
-
--- an element of what stands from body j on is in some body from j on
-in-body : (b : List ℕ) (e m j : ℕ) → length b ≤ placeOf b (j + m) → List·Memᴰ e (drop (placeOf b j) b) → (i : ℕ) × (i < j + m) × List·Memᴰ e (bodyOf b i)
-in-body b e zero j h m =
-    let z : j + 0 ≡ j = omega arith in
-    let l : length b ≤ placeOf b j = rw z at h in
-    absurd (List·Memᴰ·not-nil (subst (List·Memᴰ e) (drop-of-length-le b l) m))
-in-body b e (suc n) j h m =
-    let z : suc j + n ≡ j + suc n = omega arith in
-    ⊎-elim
-    (λ i. (j, omega arith, i))
-    (λ i. let r = in-body b e n (suc j) (rw z h) i in (r .0, omega (arith, r .1), r .2))
-    (List·Memᴰ·append-cases (bodyOf b j) (subst (List·Memᴰ e) (from-place b j) m))
-
--- and an element of a body stands behind the header
-behind-header : (b : List ℕ) (e j : ℕ) → List·Memᴰ e (bodyOf b j) → List·Memᴰ e (drop (headerLength b) b)
-behind-header b e j m =
-    let d : headerLength b + (placeOf b j - headerLength b) ≡ placeOf b j = omega (arith, place-from b j) in
-    let s : drop (placeOf b j - headerLength b) (drop (headerLength b) b) ≡ drop (placeOf b j) b = drop-drop (placeOf b j - headerLength b) (headerLength b) b ∙ ap (λ (k : ℕ). drop k b) d in
-    member-drop (placeOf b j - headerLength b) e (drop (headerLength b) b)
-    (subst (List·Memᴰ e) (sym s) (member-take (bodyLength b j) e (drop (placeOf b j) b) m))
-
--- so one pass over what stands behind the header decides 4
-pub entries-here : (b : List ℕ) → Laid b → any (λ e. ltb 50 e) (drop (headerLength b) b) ≡ largeEntryTest b
-unfolding placeOf
-entries-here b laid = tests-same _ _ (tests-entryAbove50 (drop (headerLength b) b)) (record { sound = λ t. into (tests-largeEntry b .sound t); complete = λ p. tests-largeEntry b .complete (back p) })
-  where
-    into : SomeBelow (tableCount b) (λ j. EntryAbove50 (bodyOf b j)) → EntryAbove50 (drop (headerLength b) b)
-    into r = (r .2 .0, behind-header b (r .2 .0) (r .0) (r .2 .1), r .2 .2)
-
-    back : EntryAbove50 (drop (headerLength b) b) → SomeBelow (tableCount b) (λ j. EntryAbove50 (bodyOf b j))
-    back r =
-        let z : 0 + tableCount b ≡ tableCount b = omega arith in
-        let i = in-body b (r .0) (tableCount b) 0 (rw z (omega (arith, laid .ends))) (r .1) in
-        (i .0, omega (arith, i .1), (r .0, i .2, r .2))
-
--- ---- an accepted bundle
-
--- what an accepted bundle determines: its frame, each table's rows and place, where it ends, and that its entries are small
-pub record Accepted (b : List ℕ) : Type 0 where
-  pub layout : Laid b
-  pub small : (j e : ℕ) → j < tableCount b → List·Memᴰ e (bodyOf b j) → e ≤ 50
-
-pub accepted-bundle : (b : List ℕ) → refusal (bundleChecks b) ≡ 0 → Accepted b
-accepted-bundle b e =
-    let a = accepted (bundleChecks b) e in
-    record {
-      layout = laid-accepts b (accepts-left (layoutChecks b) (entryChecks b) a);
-      small = λ j x h m. by-cases (decLe x 50) (λ l. l) (λ g. absurd (accepts-right (layoutChecks b) (entryChecks b) a _ (List·Memᴰ·head refl) (j, h, (x, m, omega arith))));
-    }
-
--- ---- the reader
-
--- 4 is decided by the pass over what stands behind the header
-module _ (b : List ℕ) (start : ℕ) (found : Bool) (passed : refusal (layoutChecks b) ≡ 0) (e : start ≡ headerLength b)
-    (s : found ≡ any (λ x. ltb 50 x) (take (length b - start) (drop start b))) where
-  whole-part : take (length b - start) (drop start b) ≡ drop (headerLength b) b
-  whole-part = take-all (length b - start) (drop start b) (rw length-drop (omega arith)) ∙ rw e
-
-  decides : found ≡ largeEntryTest b
-  decides = s ∙ rw whole-part (entries-here b (laid b passed))
-
-  pub entry-four : found ≡ true → 4 ≡ refusal (bundleChecks b)
-  entry-four h = passes-first (layoutChecks b) (entryChecks b) 4 passed (sym (refusal-holds _ _ (true-tests (tests-largeEntry b) (sym decides ∙ h))))
-
-  pub entries-pass : found ≡ false → 0 ≡ refusal (bundleChecks b)
-  entries-pass h = passes-first (layoutChecks b) (entryChecks b) 0 passed
-      (sym (refusal-passes _ _ (false-tests (tests-largeEntry b) (sym decides ∙ h)) ∙ refusal-none))
-
--- an opened table's numbers, and a refused one's
-pub opened-is : {A : Type 0} (b : List ℕ) (j : ℕ) (x z : A) → refusal (openChecks b j) ≡ 0 → opened b j x z ≡ x
-unfolding opened
-opened-is b j x z e = rw e
-
-pub refused-is : {A : Type 0} (b : List ℕ) (j : ℕ) (x z : A) (m : ℕ) → m ≡ refusal (openChecks b j) → (m ≡ 0 → ⊥) → opened b j x z ≡ z
-unfolding opened
-refused-is b j x z m e f = rw (← e, ne-eqb m 0 f)
-
-module _ (b : List ℕ) (j : ℕ) where
-  refused-zeros : (m : ℕ) → m ≡ refusal (openChecks b j) → (m ≡ 0 → ⊥) → LocatePromise b j (record { refusal = m; n = 0; rows = 0; place = 0 })
-  refused-zeros m e f = record {
-    number = e;
-    variables = sym (refused-is b j _ 0 m e f);
-    count = sym (refused-is b j _ 0 m e f);
-    begins = sym (refused-is b j _ 0 m e f);
-  }
-
-  -- the bundle is refused
-  pub locate-refused : (m : ℕ) → m ≡ refusal (bundleChecks b) → (m ≡ 0 → ⊥) → LocatePromise b j (record { refusal = m; n = 0; rows = 0; place = 0 })
-  locate-refused m e f = refused-zeros m (refuses-first (bundleChecks b) (numberChecks b j) m e f) f
-
-  -- it has no table j
-  pub locate-none : refusal (bundleChecks b) ≡ 0 → tableCount b ≤ j → LocatePromise b j (record { refusal = 5; n = 0; rows = 0; place = 0 })
-  locate-none e h = refused-zeros 5 (passes-first (bundleChecks b) (numberChecks b j) 5 e (sym (refusal-holds _ _ h))) (λ x. omega arith)
-
-  -- table j is opened: the header's offset is its place
-  pub locate-opens : (n rows place : ℕ) → refusal (bundleChecks b) ≡ 0 → j < tableCount b → n ≡ variablesOf b → rows ≡ rowCount b j → place ≡ offsetOf b j → LocatePromise b j (record { refusal = 0; n = n; rows = rows; place = place })
-  locate-opens n rows place e h v r o =
-      let f : tableCount b ≤ j → ⊥ = λ x. omega arith in
-      let p : 0 ≡ refusal (openChecks b j) = passes-first (bundleChecks b) (numberChecks b j) 0 e (sym (refusal-passes _ _ f ∙ refusal-none)) in
-      let t = accepted-bundle b e .layout .tables j h in
-      record {
-        number = p;
-        variables = v ∙ sym (opened-is b j _ 0 (sym p));
-        count = r ∙ sym (opened-is b j _ 0 (sym p));
-        begins = o ∙ t .begins ∙ sym (opened-is b j _ 0 (sym p));
-      }

@@ -16,13 +16,17 @@
 --   tablesFrom b j m  the tables j to j + m − 1
 --   tablesOf b        the tables, in order
 --   Bytes b           each element is a byte, as in every slice of bytes
+--   low m, high m     the two bytes of a 16-bit number
+--   entriesOf n p Ts  the entries of tables whose first body begins at p
+--   bodiesOf Ts       the bodies of tables, end to end
+--   bundleOf n Ts     the bundle of these tables
 --
--- These are total: they say something of every list, a bundle or not.
-use mathlib.Core.List.{List, [], _∷_}
-use Prim.Native.Nat.{ℕ, zero, suc, _+_, _*_, _<_}
-use lib.ListN.{getD, take, drop}
+-- The readings are total: they say something of every list, a bundle or not.
+use mathlib.Core.List.{List, [], _∷_, _++_}
+use Prim.Native.Nat.{ℕ, zero, suc, _+_, _*_, _/_, _%_, _<_}
+use lib.ListN.{length, getD, take, drop}
 use Rattle.terms.specs.Monomials.{Table}
-use Rattle.terms.specs.Rows.{rows}
+use Rattle.terms.specs.Rows.{rows, flat}
 
 abbrev pub byteAt : List ℕ → ℕ → ℕ
 byteAt b i = getD b i 0
@@ -67,3 +71,22 @@ tablesOf b = tablesFrom b 0 (tableCount b)
 
 abbrev pub Bytes : List ℕ → Type 0
 Bytes b = (i : ℕ) → byteAt b i < 256
+
+-- ---- from tables to bytes
+
+abbrev pub low : ℕ → ℕ
+low m = m % 256
+
+abbrev pub high : ℕ → ℕ
+high m = m / 256
+
+unfoldable pub entriesOf : ℕ → ℕ → List Table → List ℕ
+entriesOf n place [] = []
+entriesOf n place (G ∷ tables) = low (length G) ∷ high (length G) ∷ low place ∷ high place ∷ entriesOf n (place + length G * n) tables
+
+unfoldable pub bodiesOf : List Table → List ℕ
+bodiesOf [] = []
+bodiesOf (G ∷ tables) = flat G ++ bodiesOf tables
+
+unfoldable pub bundleOf : ℕ → List Table → List ℕ
+bundleOf n tables = n ∷ length tables ∷ (entriesOf n (2 + 4 * length tables) tables ++ bodiesOf tables)

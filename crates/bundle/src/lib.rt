@@ -6,7 +6,7 @@ ghost use lib.ListN.{length};
 ghost use Rattle.terms.specs.Refusals.{refusal};
 ghost use Rattle.bundle.specs.Format.{byteAt, number16, variablesOf, tableCount, headerLength, rowCount, placeOf};
 ghost use Rattle.bundle.specs.Checks.{frameChecks, tableChecksOf, tablesChecks, remainChecks, layoutChecks, bundleChecks, openChecks};
-ghost use Rattle.bundle.specs.Operation.{LocatePromise};
+ghost use Rattle.bundle.specs.Operation.{LocatePromise, FoundWithin, PartOf, OpenPromise};
 
 // The most bytes of a bundle, and the most tables.
 pub const MOST_BYTES: usize = 65535;
@@ -169,4 +169,33 @@ pub fn locate(bundle: &[u8], j: usize) -> Located
         rows,
         place,
     }
+}
+
+// A table shown: the part of the lent bundle that it is, with its n and its row count beside it. On a refusal the
+// numbers are 0 and the part is empty.
+pub struct OpenedTable<'a> {
+    pub bytes: &'a [u8],
+    pub n: usize,
+    pub rows: usize,
+    pub refusal: u8,
+}
+
+// The part of a bundle that a found table is.
+fn part<'a>(bundle: &'a [u8], found: Located) -> &'a [u8]
+    requires { ⌜ FoundWithin (now bundle) found ⌝ }
+    ensures { λ r. ⌜ PartOf (bundle .entry) (found .place) (found .rows * found .n) r ⌝ }
+{
+    let start = found.place;
+    let size = found.rows * found.n;
+    let end = start + size;
+    &bundle[start..end]
+}
+
+// Opens table j of a bundle.
+pub fn open_table<'a>(bundle: &'a [u8], j: usize) -> OpenedTable<'a>
+    ensures { λ r. ⌜ OpenPromise (bundle .entry) j r ⌝ }
+{
+    let found = locate(bundle, j);
+    let bytes = part(bundle, found);
+    OpenedTable { bytes, n: found.n, rows: found.rows, refusal: found.refusal }
 }

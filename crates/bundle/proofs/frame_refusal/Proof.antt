@@ -1,65 +1,44 @@
 use Rattle.bundle.proofs.CheckLaws.{frame-nine, has-frame, frame-one, frame-passes}
 use native.Mathlib.Omega.{arith}
-use borrow.Author.Tests.{le-ltb, lt-ltb, le-leb, lt-leb, eq-eqb, ne-eqb, ltb-true, ltb-false, leb-true, leb-false, eqb-true, eqb-false}
-use mathlib.Core.Path.{_≡_, refl, sym, ap, _∙_}
-use mathlib.Core.Logic.{inl, inr, ⊎-elim}
-use mathlib.Core.List.{List, [], _∷_, _++_}
-use mathlib.Core.Bool.{Bool, true, false}
-use Prim.Native.Nat.{ℕ, zero, suc, _+_, _*_, _-_, _/_, _%_, _≤_, _<_}
-use lib.ListN.{length, take, drop, getD, set, replicate}
+use mathlib.Core.Logic.{inl, inr}
 use denote.Ref.{now}
 use borrow.Author.Needs.{needs}
 use Rattle.bundle.proofs.frame_refusal.Statement.{statement}
 use Rattle.bundle.proofs.frame_refusal.Tie as tie
-use Rattle.bundle.proofs.frame_refusal.Reads as reads
-use Rattle.bundle.proofs.frame_refusal.Lts as lts
-use Rattle.bundle.proofs.byte_at.Reads as byte-at-reads
 
--- src/lib.rt:47:9
 returns : tie.Need-returns
 returns c = frame-nine (c .before .before .args .bundle .now) (inl (omega arith))
 
--- src/lib.rt:50:9
 returns-2 : tie.Need-returns-2
 returns-2 c = frame-nine (c .before .before .before .args .bundle .now) (inr (inl (omega arith)))
 
--- src/lib.rt:52:9
 byte-at-requires : tie.Need-byte-at-requires
 byte-at-requires c κs = search needs
 
--- src/lib.rt:54:9
 returns-3 : tie.Need-returns-3
 returns-3 c = frame-nine (c .before .before .before .before .before .args .bundle .now) (inr (inr (inl (λ h. omega (arith, h .0)))))
 
--- src/lib.rt:57:9
 returns-4 : tie.Need-returns-4
 returns-4 c = frame-nine (c .before .before .before .before .before .before .args .bundle .now) (inr (inr (inl (λ h. omega (arith, h .1)))))
 
--- src/lib.rt:59:19
 mul-if5 : tie.Need-mul-if5
 mul-if5 c = search needs
 
--- src/lib.rt:59:15
 add-if5 : tie.Need-add-if5
 add-if5 c = search needs
 
--- src/lib.rt:60:9
 returns-5 : tie.Need-returns-5
 returns-5 c = frame-nine (c .before .before .before .before .before .before .before .args .bundle .now) (inr (inr (inr (omega arith))))
 
--- src/lib.rt:62:9
 byte-at-requires-2 : tie.Need-byte-at-requires-2
 byte-at-requires-2 c κs = search needs
 
--- src/lib.rt:64:9
 returns-6 : tie.Need-returns-6
 returns-6 c = frame-one (c .before .before .before .before .before .before .before .before .before .args .bundle .now) (has-frame (c .before .before .before .before .before .before .before .before .before .args .bundle .now) (omega arith) (omega arith) (omega arith) (omega arith) (omega arith)) (λ h. omega (arith, h .0))
 
--- src/lib.rt:67:9
 returns-7 : tie.Need-returns-7
 returns-7 c = frame-one (c .before .before .before .before .before .before .before .before .before .before .args .bundle .now) (has-frame (c .before .before .before .before .before .before .before .before .before .before .args .bundle .now) (omega arith) (omega arith) (omega arith) (omega arith) (omega arith)) (λ h. omega (arith, h .1))
 
--- src/lib.rt:42:1
 returns-8 : tie.Need-returns-8
 returns-8 c = frame-passes (c .before .before .before .before .before .before .before .before .before .before .args .bundle .now) (has-frame (c .before .before .before .before .before .before .before .before .before .before .args .bundle .now) (omega arith) (omega arith) (omega arith) (omega arith) (omega arith)) (omega arith) (omega arith)
 

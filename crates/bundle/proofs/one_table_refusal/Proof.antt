@@ -1,98 +1,76 @@
 use Rattle.bundle.proofs.CheckLaws.{framed, body-bound, reads-rows, reads-offset, table-three, table-ten, table-eleven, table-passes}
-use borrow.Author.Needs.{needs}
 use native.Mathlib.Omega.{arith}
-use borrow.Author.Tests.{le-ltb, lt-ltb, le-leb, lt-leb, eq-eqb, ne-eqb, ltb-true, ltb-false, leb-true, leb-false, eqb-true, eqb-false}
-use mathlib.Core.Path.{_≡_, refl, sym, ap, _∙_}
-use mathlib.Core.Logic.{⊎-elim}
-use mathlib.Core.List.{List, [], _∷_, _++_}
-use mathlib.Core.Bool.{Bool, true, false}
-use Prim.Native.Nat.{ℕ, zero, suc, _+_, _*_, _-_, _/_, _%_, _≤_, _<_}
-use lib.ListN.{length, take, drop, getD, set, replicate}
+use mathlib.Core.Path.{refl, sym, _∙_}
 use denote.Ref.{now}
 use Rattle.bundle.proofs.one_table_refusal.Statement.{statement}
 use Rattle.bundle.proofs.one_table_refusal.Tie as tie
-use Rattle.bundle.proofs.one_table_refusal.Reads as reads
-use Rattle.bundle.proofs.one_table_refusal.Lts as lts
-use Rattle.bundle.proofs.read16.Reads as read16-reads
 
--- src/lib.rt:77:35
 mul-read16 : tie.Need-mul-read16
 mul-read16 c =
     let a = c .before .args in
     let f = framed (a .bundle .now) (c .before .pre .0) in
     omega arith
 
--- src/lib.rt:77:31
 add-read16 : tie.Need-add-read16
 add-read16 c =
     let a = c .before .args in
     let f = framed (a .bundle .now) (c .before .pre .0) in
     omega arith
 
--- src/lib.rt:77:9
 read16-requires : tie.Need-read16-requires
 read16-requires c κs =
     let a = c .before .args in
     let f = framed (a .bundle .now) (c .before .pre .0) in
     omega arith
 
--- src/lib.rt:79:9
 returns : tie.Need-returns
 returns c =
     let a = c .before .before .before .args in
     let q = c .before .before .before .pre in
     table-three (a .bundle .now) (a .j) _ _ (reads-rows _ _ _ (c .before .read16 .ensures .0)) refl (c .if1 .taken)
 
--- src/lib.rt:81:37
 mul-read16-2 : tie.Need-mul-read16-2
 mul-read16-2 c =
     let a = c .before .before .before .args in
     let f = framed (a .bundle .now) (c .before .before .before .pre .0) in
     omega arith
 
--- src/lib.rt:81:33
 add-read16-2 : tie.Need-add-read16-2
 add-read16-2 c =
     let a = c .before .before .before .args in
     let f = framed (a .bundle .now) (c .before .before .before .pre .0) in
     omega arith
 
--- src/lib.rt:81:9
 read16-requires-2 : tie.Need-read16-requires-2
 read16-requires-2 c κs =
     let a = c .before .before .before .args in
     let f = framed (a .bundle .now) (c .before .before .before .pre .0) in
     omega arith
 
--- src/lib.rt:83:9
 returns-2 : tie.Need-returns-2
 returns-2 c =
     let a = c .before .before .before .before .before .args in
     let q = c .before .before .before .before .before .pre in
     table-ten (a .bundle .now) (a .j) _ _ (reads-rows _ _ _ (c .before .before .before .read16 .ensures .0)) (reads-offset _ _ _ (c .before .read162 .ensures .0)) (c .before .before .if1 .left) (λ e. c .if2 .taken (e ∙ sym (q .3)))
 
--- src/lib.rt:85:31
 mul-if3 : tie.Need-mul-if3
 mul-if3 c =
     let a = c .before .before .before .before .before .args in
     let f = framed (a .bundle .now) (c .before .before .before .before .before .pre .0) in
     omega (arith, body-bound (c .before .before .before .read16 .result) (a .n) (omega arith) (omega arith))
 
--- src/lib.rt:85:23
 add-if3 : tie.Need-add-if3
 add-if3 c =
     let a = c .before .before .before .before .before .args in
     let f = framed (a .bundle .now) (c .before .before .before .before .before .pre .0) in
     omega (arith, body-bound (c .before .before .before .read16 .result) (a .n) (omega arith) (omega arith))
 
--- src/lib.rt:86:9
 returns-3 : tie.Need-returns-3
 returns-3 c =
     let a = c .before .before .before .before .before .before .args in
     let q = c .before .before .before .before .before .before .pre in
     table-eleven (a .bundle .now) (a .j) _ _ (reads-rows _ _ _ (c .before .before .before .before .read16 .ensures .0)) (reads-offset _ _ _ (c .before .before .read162 .ensures .0)) (c .before .before .before .if1 .left) (c .before .if2 .left ∙ q .3) (rw (← q .3, ← q .1) (c .if3 .taken))
 
--- src/lib.rt:73:1
 returns-4 : tie.Need-returns-4
 returns-4 c =
     let a = c .before .before .before .before .before .before .args in

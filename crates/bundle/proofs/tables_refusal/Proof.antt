@@ -1,20 +1,10 @@
 use Rattle.bundle.proofs.CheckLaws.{framed, body-bound, table-laid, reads-rows, Passed, passed-first, passed-next, passed-refuses, passed-remain, passed-all}
-use borrow.Author.Needs.{needs}
 use native.Mathlib.Omega.{arith}
-use borrow.Author.Tests.{le-ltb, lt-ltb, le-leb, lt-leb, eq-eqb, ne-eqb, ltb-true, ltb-false, leb-true, leb-false, eqb-true, eqb-false}
-use mathlib.Core.Path.{_≡_, refl, sym, ap, _∙_}
-use mathlib.Core.Logic.{⊎-elim}
-use mathlib.Core.List.{List, [], _∷_, _++_}
-use mathlib.Core.Bool.{Bool, true, false}
-use Prim.Native.Nat.{ℕ, zero, suc, _+_, _*_, _-_, _/_, _%_, _≤_, _<_}
-use lib.ListN.{length, take, drop, getD, set, replicate}
+use mathlib.Core.Path.{sym, _∙_}
+use Prim.Native.Nat.{_-_}
 use denote.Ref.{now}
 use Rattle.bundle.proofs.tables_refusal.Statement.{statement}
 use Rattle.bundle.proofs.tables_refusal.Tie as tie
-use Rattle.bundle.proofs.tables_refusal.Reads as reads
-use Rattle.bundle.proofs.tables_refusal.Lts as lts
-use Rattle.bundle.proofs.one_table_refusal.Reads as one-table-refusal-reads
-use Rattle.bundle.proofs.read16.Reads as read16-reads
 
 abbrev Inv-loop : tie.InvT-loop
 Inv-loop bundle n tables place₀ j₀ place j = Passed bundle tables place j
@@ -22,7 +12,6 @@ Inv-loop bundle n tables place₀ j₀ place j = Passed bundle tables place j
 abbrev μ-loop : tie.MeasureT-loop
 μ-loop bundle n tables place₀ j₀ place j = tables - j
 
--- src/lib.rt:96:25
 mul-place : tie.Need-mul-place Inv-loop μ-loop
 mul-place c =
     let a = c .before .args in
@@ -30,7 +19,6 @@ mul-place c =
     let f = framed (a .bundle .now) (q .0) in
     omega arith
 
--- src/lib.rt:96:21
 add-place : tie.Need-add-place Inv-loop μ-loop
 add-place c =
     let a = c .before .args in
@@ -38,7 +26,6 @@ add-place c =
     let f = framed (a .bundle .now) (q .0) in
     omega arith
 
--- src/lib.rt:98:5
 loop-holds : tie.Need-loop-holds Inv-loop μ-loop
 loop-holds c =
     let a = c .before .args in
@@ -46,7 +33,6 @@ loop-holds c =
     let f = framed (a .bundle .now) (q .0) in
     passed-first (a .bundle .now) (a .tables) (q .2) f
 
--- src/lib.rt:99:13
 one-table-refusal-requires : tie.Need-one-table-refusal-requires Inv-loop μ-loop
 one-table-refusal-requires c κs =
     let a = c .before .before .before .args in
@@ -55,7 +41,6 @@ one-table-refusal-requires c κs =
     let i = c .before .loop .inv in
     (q .0, q .1, omega arith, i .here, omega (arith, i .within, f .short))
 
--- src/lib.rt:101:13
 returns : tie.Need-returns Inv-loop μ-loop
 returns c =
     let a = c .before .before .before .before .before .args in
@@ -63,7 +48,6 @@ returns c =
     let l = c .before .before .before .loop in
     passed-refuses (a .bundle .now) (a .tables) (q .2) (l .place) (l .j) (l .inv) _ (c .before .before .loop-test .taken) (c .before .one-table-refusal .ensures) (c .if1 .taken)
 
--- src/lib.rt:103:37
 mul-read16 : tie.Need-mul-read16 Inv-loop μ-loop
 mul-read16 c =
     let a = c .before .before .before .before .before .args in
@@ -71,7 +55,6 @@ mul-read16 c =
     let f = framed (a .bundle .now) (q .0) in
     omega arith
 
--- src/lib.rt:103:33
 add-read16 : tie.Need-add-read16 Inv-loop μ-loop
 add-read16 c =
     let a = c .before .before .before .before .before .args in
@@ -79,7 +62,6 @@ add-read16 c =
     let f = framed (a .bundle .now) (q .0) in
     omega arith
 
--- src/lib.rt:103:18
 read16-requires : tie.Need-read16-requires Inv-loop μ-loop
 read16-requires c κs =
     let a = c .before .before .before .before .before .args in
@@ -87,7 +69,6 @@ read16-requires c κs =
     let f = framed (a .bundle .now) (q .0) in
     omega arith
 
--- src/lib.rt:103:18
 mul-place-2 : tie.Need-mul-place-2 Inv-loop μ-loop
 mul-place-2 c =
     let a = c .before .before .before .before .before .before .args in
@@ -99,7 +80,6 @@ mul-place-2 c =
     let m = body-bound (c .read16 .result) (a .n) (omega (arith, t .limited)) (omega arith) in
     omega (arith, l .inv .within)
 
--- src/lib.rt:103:9
 add-place-2 : tie.Need-add-place-2 Inv-loop μ-loop
 add-place-2 c =
     let a = c .before .before .before .before .before .before .args in
@@ -111,7 +91,6 @@ add-place-2 c =
     let m = body-bound (c .read16 .result) (a .n) (omega (arith, t .limited)) (omega arith) in
     omega (arith, l .inv .within)
 
--- src/lib.rt:104:9
 add-j : tie.Need-add-j Inv-loop μ-loop
 add-j c =
     let a = c .before .before .before .before .before .before .args in
@@ -119,12 +98,10 @@ add-j c =
     let f = framed (a .bundle .now) (q .0) in
     omega arith
 
--- src/lib.rt:98:5
 loop-less : tie.Need-loop-less Inv-loop μ-loop
 loop-less c =
     omega arith
 
--- src/lib.rt:98:5
 loop-again : tie.Need-loop-again Inv-loop μ-loop
 loop-again c =
     let a = c .before .before .before .before .before .before .args in
@@ -132,7 +109,6 @@ loop-again c =
     let l = c .before .before .before .before .loop in
     passed-next (a .bundle .now) (a .tables) (q .2) (l .place) (l .j) _ (a .n) (l .inv) (c .before .before .before .loop-test .taken) (sym (c .before .if1 .left) ∙ c .before .before .one-table-refusal .ensures) (c .read16 .ensures .0) (q .1)
 
--- src/lib.rt:107:9
 returns-2 : tie.Need-returns-2 Inv-loop μ-loop
 returns-2 c =
     let a = c .before .before .before .before .args in
@@ -140,7 +116,6 @@ returns-2 c =
     let l = c .before .before .loop in
     passed-remain (a .bundle .now) (a .tables) (q .2) (l .place) (l .j) (l .inv) (c .before .loop-test .left) (c .if2 .taken)
 
--- src/lib.rt:92:1
 returns-3 : tie.Need-returns-3 Inv-loop μ-loop
 returns-3 c =
     let a = c .before .before .before .before .args in

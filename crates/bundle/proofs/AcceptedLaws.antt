@@ -1,0 +1,158 @@
+-- What an accepted bundle determines.
+--
+--   Laid, laid               what is known of a bundle whose layout passed: frame, each table's rows and place, its end
+--   from-place               what stands from body j on is body j and what stands from the next on
+--   entries-here             4 over all bodies is one pass over what stands behind the header
+--   Accepted, accepted-bundle   what is known of an accepted bundle
+--   length-body, length-table, flat-table   a table of it: the length of its body, its number of rows, its bytes again
+--   table-passes-checks      a table of it passes the checks 1 to 4 that every operation on a table begins with
+use mathlib.Core.Path.{_≡_, refl, sym, ap, _∙_, subst}
+use mathlib.Core.List.{List, _++_, List·Memᴰ, List·Memᴰ·head, Memᴰ·append-left, Memᴰ·append-right, List·Memᴰ·append-cases, List·Memᴰ·not-nil}
+use mathlib.Core.Logic.{⊎-elim, by-cases}
+use Prim.Native.Nat.{ℕ, zero, suc, _+_, _*_, _-_, _/_, _≤_, _<_}
+use native.Mathlib.Nat.{mul-div-left}
+use native.Mathlib.Decide.{decLe, decLt}
+use native.Mathlib.Omega.{arith}
+use lib.Dec.{ltb}
+use lib.ListN.{length, take, drop, take-append-drop, drop-of-length-le, length-drop}
+use lib.Seq.{drop-drop, length-take-le}
+use Rattle.terms.specs.Tests.{any, tests-same}
+use Rattle.terms.specs.Rows.{flat}
+use Rattle.terms.specs.Refusals.{refusal, Accepts, NotOneToSix, NoMultiple, TooManyRows, EntryAbove50, tests-entryAbove50, tableChecks}
+use Rattle.terms.proofs.RowsLaws.{length-rows, flat-rows}
+use Rattle.terms.proofs.RefusalLaws.{accepted, refusal-passes}
+use Rattle.bundle.specs.Some.{SomeBelow}
+use Rattle.bundle.specs.Format.{variablesOf, tableCount, headerLength, rowCount, bodyLength, placeOf, bodyOf, tableOf}
+use Rattle.bundle.specs.Checks.{frameChecks, tablesChecks, remainChecks, layoutChecks, entryChecks, bundleChecks, largeEntryTest, tests-largeEntry}
+use Rattle.bundle.proofs.CheckLaws.{refusal-none, accepts-left, accepts-right, Framed, framed-accepts, TableLaid, tables-laid}
+
+-- ---- the layout
+
+pub record Laid (b : List ℕ) : Type 0 where
+  pub frame : Framed b
+  pub tables : (j : ℕ) → j < tableCount b → TableLaid b j
+  pub ends : length b ≡ placeOf b (tableCount b)
+
+-- the last body ends within the bundle
+last-within : (b : List ℕ) (k : ℕ) → 0 < k → ((j : ℕ) → j < k → TableLaid b j) → placeOf b k ≤ length b
+unfolding placeOf
+last-within b zero p f = absurd (omega arith)
+last-within b (suc k) p f = f k (omega arith) .within
+
+pub laid-accepts : (b : List ℕ) → Accepts (layoutChecks b) → Laid b
+laid-accepts b a =
+    let rest = tablesChecks b 0 (tableCount b) ++ remainChecks b in
+    let frame = framed-accepts b (accepts-left (frameChecks b) rest a) in
+    let later = accepts-right (frameChecks b) rest a in
+    let each : (j : ℕ) → j < tableCount b → TableLaid b j = λ j h. tables-laid b (tableCount b) 0 (accepts-left (tablesChecks b 0 (tableCount b)) (remainChecks b) later) j (omega arith) (omega arith) in
+    let last = last-within b (tableCount b) (frame .someTables) each in
+    record {
+      frame = frame;
+      tables = each;
+      ends = by-cases (decLt (placeOf b (tableCount b)) (length b))
+          (λ h. absurd (accepts-right (tablesChecks b 0 (tableCount b)) (remainChecks b) later _ (List·Memᴰ·head refl) h))
+          (λ h. omega arith);
+    }
+
+pub laid : (b : List ℕ) → refusal (layoutChecks b) ≡ 0 → Laid b
+laid b e = laid-accepts b (accepted (layoutChecks b) e)
+
+-- ---- 4 over all bodies
+
+member-take : (n e : ℕ) (l : List ℕ) → List·Memᴰ e (take n l) → List·Memᴰ e l
+member-take n e l m = subst (List·Memᴰ e) (take-append-drop n l) (Memᴰ·append-left (drop n l) m)
+
+member-drop : (n e : ℕ) (l : List ℕ) → List·Memᴰ e (drop n l) → List·Memᴰ e l
+member-drop n e l m = subst (List·Memᴰ e) (take-append-drop n l) (Memᴰ·append-right (take n l) m)
+
+-- no body begins before the header's end
+pub place-from : (b : List ℕ) (j : ℕ) → headerLength b ≤ placeOf b j
+unfolding placeOf
+place-from b zero = omega arith
+place-from b (suc j) = omega (arith, place-from b j)
+
+-- what stands from body j on is body j and what stands from the next on
+pub from-place : (b : List ℕ) (j : ℕ) → drop (placeOf b j) b ≡ bodyOf b j ++ drop (placeOf b (suc j)) b
+unfolding placeOf
+from-place b j =
+    sym (take-append-drop (bodyLength b j) (drop (placeOf b j) b))
+    ∙ ap (λ (l : List ℕ). bodyOf b j ++ l) (drop-drop (bodyLength b j) (placeOf b j) b)
+
+-- an element of what stands from body j on is in some body from j on
+in-body : (b : List ℕ) (e m j : ℕ) → length b ≤ placeOf b (j + m) → List·Memᴰ e (drop (placeOf b j) b) → (i : ℕ) × (i < j + m) × List·Memᴰ e (bodyOf b i)
+in-body b e zero j h m =
+    let z : j + 0 ≡ j = omega arith in
+    let l : length b ≤ placeOf b j = rw z at h in
+    absurd (List·Memᴰ·not-nil (subst (List·Memᴰ e) (drop-of-length-le b l) m))
+in-body b e (suc n) j h m =
+    let z : suc j + n ≡ j + suc n = omega arith in
+    ⊎-elim
+    (λ i. (j, omega arith, i))
+    (λ i. let r = in-body b e n (suc j) (rw z h) i in (r .0, omega (arith, r .1), r .2))
+    (List·Memᴰ·append-cases (bodyOf b j) (subst (List·Memᴰ e) (from-place b j) m))
+
+-- and an element of a body stands behind the header
+behind-header : (b : List ℕ) (e j : ℕ) → List·Memᴰ e (bodyOf b j) → List·Memᴰ e (drop (headerLength b) b)
+behind-header b e j m =
+    let d : headerLength b + (placeOf b j - headerLength b) ≡ placeOf b j = omega (arith, place-from b j) in
+    let s : drop (placeOf b j - headerLength b) (drop (headerLength b) b) ≡ drop (placeOf b j) b = drop-drop (placeOf b j - headerLength b) (headerLength b) b ∙ ap (λ (k : ℕ). drop k b) d in
+    member-drop (placeOf b j - headerLength b) e (drop (headerLength b) b)
+    (subst (List·Memᴰ e) (sym s) (member-take (bodyLength b j) e (drop (placeOf b j) b) m))
+
+-- so one pass over what stands behind the header decides 4
+pub entries-here : (b : List ℕ) → Laid b → any (λ e. ltb 50 e) (drop (headerLength b) b) ≡ largeEntryTest b
+unfolding placeOf
+entries-here b laid = tests-same _ _ (tests-entryAbove50 (drop (headerLength b) b)) (record { sound = λ t. into (tests-largeEntry b .sound t); complete = λ p. tests-largeEntry b .complete (back p) })
+  where
+    into : SomeBelow (tableCount b) (λ j. EntryAbove50 (bodyOf b j)) → EntryAbove50 (drop (headerLength b) b)
+    into r = (r .2 .0, behind-header b (r .2 .0) (r .0) (r .2 .1), r .2 .2)
+
+    back : EntryAbove50 (drop (headerLength b) b) → SomeBelow (tableCount b) (λ j. EntryAbove50 (bodyOf b j))
+    back r =
+        let z : 0 + tableCount b ≡ tableCount b = omega arith in
+        let i = in-body b (r .0) (tableCount b) 0 (rw z (omega (arith, laid .ends))) (r .1) in
+        (i .0, omega (arith, i .1), (r .0, i .2, r .2))
+
+-- ---- an accepted bundle
+
+-- what an accepted bundle determines: its frame, each table's rows and place, where it ends, and that its entries are small
+pub record Accepted (b : List ℕ) : Type 0 where
+  pub layout : Laid b
+  pub small : (j e : ℕ) → j < tableCount b → List·Memᴰ e (bodyOf b j) → e ≤ 50
+
+pub accepted-by : (b : List ℕ) → Accepts (bundleChecks b) → Accepted b
+accepted-by b a =
+    record {
+      layout = laid-accepts b (accepts-left (layoutChecks b) (entryChecks b) a);
+      small = λ j x h m. by-cases (decLe x 50) (λ l. l) (λ g. absurd (accepts-right (layoutChecks b) (entryChecks b) a _ (List·Memᴰ·head refl) (j, h, (x, m, omega arith))));
+    }
+
+pub accepted-bundle : (b : List ℕ) → refusal (bundleChecks b) ≡ 0 → Accepted b
+accepted-bundle b e = accepted-by b (accepted (bundleChecks b) e)
+
+-- ---- the tables of an accepted bundle
+
+module _ (b : List ℕ) (a : Laid b) (j : ℕ) (h : j < tableCount b) where
+  pub length-body : length (bodyOf b j) ≡ bodyLength b j
+  length-body = length-take-le (bodyLength b j) (drop (placeOf b j) b) (rw length-drop (omega (arith, a .tables j h .within)))
+
+  -- the header's row count is the number of rows
+  pub length-table : length (tableOf b j) ≡ rowCount b j
+  length-table =
+      length-rows (variablesOf b) (bodyOf b j)
+      ∙ ap (λ (m : ℕ). m / variablesOf b) length-body
+      ∙ mul-div-left (rowCount b j) (a .frame .someVariables)
+
+  -- and the rows end to end are the body
+  pub flat-table : flat (tableOf b j) ≡ bodyOf b j
+  flat-table = flat-rows (variablesOf b) (bodyOf b j) (length-body ∙ ap (λ (m : ℕ). m * variablesOf b) (sym length-table ∙ length-rows (variablesOf b) (bodyOf b j)))
+
+-- each table of an accepted bundle passes the checks of a table
+pub table-passes-checks : (b : List ℕ) → Accepted b → (j : ℕ) → j < tableCount b → refusal (tableChecks (variablesOf b) (bodyOf b j)) ≡ 0
+table-passes-checks b a j h =
+    let l = a .layout in
+    let one : NotOneToSix (variablesOf b) → ⊥ = λ f. f (l .frame .someVariables, l .frame .fewVariables) in
+    let two : NoMultiple (variablesOf b) (bodyOf b j) → ⊥ = λ f. f (rowCount b j) (length-body b l j h) in
+    let three : TooManyRows (variablesOf b) (bodyOf b j) → ⊥ = λ f. omega (arith, length-table b l j h, l .tables j h .limited) in
+    let four : EntryAbove50 (bodyOf b j) → ⊥ = λ f. omega (arith, a .small j (f .0) h (f .1), f .2) in
+    refusal-passes _ _ one ∙ refusal-passes _ _ two ∙ refusal-passes _ _ three ∙ refusal-passes _ _ four ∙ refusal-none

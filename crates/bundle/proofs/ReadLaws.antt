@@ -1,0 +1,158 @@
+-- Laws of the reader: what `locate` and `open_table` give is what they promise, and nothing else is.
+--
+--   entry-four, entries-pass   4, decided by the pass over what stands behind the header
+--   opened-is, refused-is    the numbers of an opened table, and of a refused one
+--   locate-refused, locate-none, locate-opens   the three answers of `locate`
+--   open-accepted            an opened table is one of an accepted bundle
+--   locate-unique, open-unique   two results that the promise allows are equal
+--   found-within, body-shown, opens   what is located and cut out of the bundle is the table
+use mathlib.Core.Path.{_≡_, refl, sym, _∙_}
+use mathlib.Core.Bool.{Bool, true, false}
+use mathlib.Core.List.{List, [], List·Memᴰ·head}
+use mathlib.Core.Logic.{by-cases}
+use Prim.Native.Nat.{ℕ, _*_, _-_, _≤_, _<_}
+use native.Mathlib.Decide.{decLe, ℕ-discrete}
+use native.Mathlib.Omega.{arith}
+use lib.Dec.{ltb}
+use lib.ListN.{length, take, drop, length-drop}
+use lib.Seq.{take-all}
+use borrow.Author.Tests.{ne-eqb}
+use Rattle.terms.specs.Tests.{any, true-tests, false-tests}
+use Rattle.terms.specs.Refusals.{refusal}
+use Rattle.terms.proofs.RefusalLaws.{refusal-holds, refusal-passes, accepted}
+use Rattle.bundle.specs.Format.{variablesOf, tableCount, headerLength, rowCount, offsetOf, bodyLength, placeOf, bodyOf}
+use Rattle.bundle.specs.Checks.{numberChecks, openChecks, layoutChecks, entryChecks, bundleChecks, largeEntryTest, tests-largeEntry}
+use Rattle.bundle.specs.Operation.{opened, LocatePromise, FoundWithin, PartOf, OpenPromise, SameOpened}
+use Rattle.bundle.specs.declared.Located.{Located}
+use Rattle.bundle.specs.declared.OpenedTable.{OpenedTable}
+use denote.Ref.{RefT, now}
+use Rattle.bundle.proofs.CheckLaws.{refusal-none, refuses-first, passes-first, accepts-left, accepts-right}
+use Rattle.bundle.proofs.AcceptedLaws.{laid, entries-here, Accepted, accepted-by, accepted-bundle}
+
+-- ---- the reader
+
+-- 4 is decided by the pass over what stands behind the header
+module _ (b : List ℕ) (start : ℕ) (found : Bool) (passed : refusal (layoutChecks b) ≡ 0) (e : start ≡ headerLength b)
+    (s : found ≡ any (λ x. ltb 50 x) (take (length b - start) (drop start b))) where
+  whole-part : take (length b - start) (drop start b) ≡ drop (headerLength b) b
+  whole-part = take-all (length b - start) (drop start b) (rw length-drop (omega arith)) ∙ rw e
+
+  decides : found ≡ largeEntryTest b
+  decides = s ∙ rw whole-part (entries-here b (laid b passed))
+
+  pub entry-four : found ≡ true → 4 ≡ refusal (bundleChecks b)
+  entry-four h = passes-first (layoutChecks b) (entryChecks b) 4 passed (sym (refusal-holds _ _ (true-tests (tests-largeEntry b) (sym decides ∙ h))))
+
+  pub entries-pass : found ≡ false → 0 ≡ refusal (bundleChecks b)
+  entries-pass h = passes-first (layoutChecks b) (entryChecks b) 0 passed
+      (sym (refusal-passes _ _ (false-tests (tests-largeEntry b) (sym decides ∙ h)) ∙ refusal-none))
+
+-- an opened table's numbers, and a refused one's
+pub opened-is : {A : Type 0} (b : List ℕ) (j : ℕ) (x z : A) → refusal (openChecks b j) ≡ 0 → opened b j x z ≡ x
+unfolding opened
+opened-is b j x z e = rw e
+
+pub refused-is : {A : Type 0} (b : List ℕ) (j : ℕ) (x z : A) (m : ℕ) → m ≡ refusal (openChecks b j) → (m ≡ 0 → ⊥) → opened b j x z ≡ z
+unfolding opened
+refused-is b j x z m e f = rw (← e, ne-eqb m 0 f)
+
+module _ (b : List ℕ) (j : ℕ) where
+  refused-zeros : (m : ℕ) → m ≡ refusal (openChecks b j) → (m ≡ 0 → ⊥) → LocatePromise b j (record { refusal = m; n = 0; rows = 0; place = 0 })
+  refused-zeros m e f = record {
+    number = e;
+    variables = sym (refused-is b j _ 0 m e f);
+    count = sym (refused-is b j _ 0 m e f);
+    begins = sym (refused-is b j _ 0 m e f);
+  }
+
+  -- the bundle is refused
+  pub locate-refused : (m : ℕ) → m ≡ refusal (bundleChecks b) → (m ≡ 0 → ⊥) → LocatePromise b j (record { refusal = m; n = 0; rows = 0; place = 0 })
+  locate-refused m e f = refused-zeros m (refuses-first (bundleChecks b) (numberChecks b j) m e f) f
+
+  -- it has no table j
+  pub locate-none : refusal (bundleChecks b) ≡ 0 → tableCount b ≤ j → LocatePromise b j (record { refusal = 5; n = 0; rows = 0; place = 0 })
+  locate-none e h = refused-zeros 5 (passes-first (bundleChecks b) (numberChecks b j) 5 e (sym (refusal-holds _ _ h))) (λ x. omega arith)
+
+  -- table j is opened: the header's offset is its place
+  pub locate-opens : (n rows place : ℕ) → refusal (bundleChecks b) ≡ 0 → j < tableCount b → n ≡ variablesOf b → rows ≡ rowCount b j → place ≡ offsetOf b j → LocatePromise b j (record { refusal = 0; n = n; rows = rows; place = place })
+  locate-opens n rows place e h v r o =
+      let f : tableCount b ≤ j → ⊥ = λ x. omega arith in
+      let p : 0 ≡ refusal (openChecks b j) = passes-first (bundleChecks b) (numberChecks b j) 0 e (sym (refusal-passes _ _ f ∙ refusal-none)) in
+      let t = accepted-bundle b e .layout .tables j h in
+      record {
+        number = p;
+        variables = v ∙ sym (opened-is b j _ 0 (sym p));
+        count = r ∙ sym (opened-is b j _ 0 (sym p));
+        begins = o ∙ t .begins ∙ sym (opened-is b j _ 0 (sym p));
+      }
+
+-- where table j is opened the bundle is accepted, and has a table j
+pub open-accepted : (b : List ℕ) (j : ℕ) → refusal (openChecks b j) ≡ 0 → Accepted b × (j < tableCount b)
+open-accepted b j e =
+    let a = accepted (openChecks b j) e in
+    (accepted-by b (accepts-left (bundleChecks b) (numberChecks b j) a),
+    by-cases (decLe (tableCount b) j) (λ h. absurd (accepts-right (bundleChecks b) (numberChecks b j) a _ (List·Memᴰ·head refl) h)) (λ h. omega arith))
+
+-- what is found lies within the bundle: the body of a table, or nothing at its start
+module _ (b : List ℕ) (j : ℕ) (f : Located) (p : LocatePromise b j f) where
+  zero-sized : (refusal (openChecks b j) ≡ 0 → ⊥) → (f .n ≡ 0) × (f .rows ≡ 0) × (f .place ≡ 0)
+  zero-sized g =
+      let m = refusal (openChecks b j) in
+      (p .variables ∙ refused-is b j _ 0 m refl g, p .count ∙ refused-is b j _ 0 m refl g, p .begins ∙ refused-is b j _ 0 m refl g)
+
+  pub found-within : FoundWithin b f
+  found-within = by-cases (ℕ-discrete (refusal (openChecks b j)) 0)
+      (λ e.
+      let a = open-accepted b j e in
+      let w = a .0 .layout .tables j (a .1) .within in
+      rw (p .begins, p .count, p .variables, opened-is b j (placeOf b j) 0 e, opened-is b j (rowCount b j) 0 e, opened-is b j (variablesOf b) 0 e) w)
+      (λ g.
+      let z = zero-sized g in
+      rw (z .2, z .1, z .0) (omega arith))
+
+  size-is : f .rows * f .n ≡ opened b j (bodyLength b j) 0
+  size-is = by-cases (ℕ-discrete (refusal (openChecks b j)) 0)
+      (λ e. rw (p .count, p .variables, opened-is b j (rowCount b j) 0 e, opened-is b j (variablesOf b) 0 e, opened-is b j (bodyLength b j) 0 e))
+      (λ g.
+      let z = zero-sized g in
+      rw (z .1, z .0) (sym (refused-is b j (bodyLength b j) 0 (refusal (openChecks b j)) refl g)))
+
+  -- the part that is cut is the table's body, or empty
+  pub body-shown : take (f .rows * f .n) (drop (f .place) b) ≡ opened b j (bodyOf b j) []
+  body-shown = by-cases (ℕ-discrete (refusal (openChecks b j)) 0)
+      (λ e. rw (size-is, p .begins, opened-is b j (bodyLength b j) 0 e, opened-is b j (placeOf b j) 0 e, opened-is b j (bodyOf b j) [] e))
+      (λ g.
+      let m = refusal (openChecks b j) in
+      rw (size-is, refused-is b j (bodyLength b j) 0 m refl g, refused-is b j (bodyOf b j) [] m refl g))
+
+-- so a table that is located and cut is opened
+pub opens : (b : RefT (List ℕ)) (j : ℕ) (f : Located) (r : RefT (List ℕ)) → LocatePromise (now b) j f → PartOf b (f .place) (f .rows * f .n) r
+    → OpenPromise b j (record { bytes = r; n = f .n; rows = f .rows; refusal = f .refusal })
+opens b j f r p c = record {
+  number = p .number;
+  variables = p .variables;
+  count = p .count;
+  shown = c .bytes ∙ body-shown (now b) j f p;
+  block = c .block;
+  begins = c .place-in ∙ rw (p .begins);
+}
+
+-- ---- one result
+
+pub locate-unique : (b : List ℕ) (j : ℕ) (r s : Located) → LocatePromise b j r → LocatePromise b j s → r ≡ s
+locate-unique b j r s p q =
+    let e0 : r .refusal ≡ s .refusal = p .number ∙ sym (q .number) in
+    let e1 : r .n ≡ s .n = p .variables ∙ sym (q .variables) in
+    let e2 : r .rows ≡ s .rows = p .count ∙ sym (q .count) in
+    let e3 : r .place ≡ s .place = p .begins ∙ sym (q .begins) in
+    λ i. record { refusal = e0 i; n = e1 i; rows = e2 i; place = e3 i }
+
+pub open-unique : (b : RefT (List ℕ)) (j : ℕ) (r s : OpenedTable) → OpenPromise b j r → OpenPromise b j s → SameOpened r s
+open-unique b j r s p q = record {
+  number = p .number ∙ sym (q .number);
+  variables = p .variables ∙ sym (q .variables);
+  count = p .count ∙ sym (q .count);
+  shown = p .shown ∙ sym (q .shown);
+  block = p .block ∙ sym (q .block);
+  place = p .begins ∙ sym (q .begins);
+}

@@ -1,0 +1,61 @@
+-- From the given rows to the count: what `complete` writes, `count` accepts, and it counts the given rows' ideal.
+--
+--   count-ideal       tables with the same ideal have the same counts
+--   completed-bytes   the bytes of the completed rows pass every check of count
+use mathlib.Core.Path.{_≡_, refl, sym, ap, _∙_, subst}
+use mathlib.Core.Bool.{Bool, not}
+use mathlib.Core.List.{List, [], _∷_, _++_, List·Memᴰ, List·Memᴰ·head, List·Memᴰ·tail, List·Memᴰ·cases-cons, List·Memᴰ·not-nil, List·Memᴰ·append-cases}
+use mathlib.Core.Logic.{_⊎_, inl, inr, ⊎-elim, by-cases}
+use Prim.Native.Nat.{ℕ, zero, suc, _+_, _*_, _≤_, _<_}
+use native.Mathlib.Decide.{decLe}
+use native.Mathlib.Omega.{arith}
+use lib.Dec.{lit<}
+use lib.ListN.{length, take, drop, getD}
+use lib.Seq.{take-at}
+use Rattle.terms.specs.Tests.{Tests, keep, tests-same, tests-as}
+use Rattle.terms.specs.Monomials.{Monomial, Table, _!_, _∈_, OfSize}
+use Rattle.terms.specs.Ideal.{Inside, SameIdeal, insideTest}
+use Rattle.terms.specs.Order.{Ascending}
+use Rattle.terms.specs.Rows.{rows, firstRows, flat}
+use Rattle.terms.specs.Refusals.{Check, Accepts, refusal, check, tableChecks, tests-notOneToSix, tests-noMultiple, tests-tooManyRows, tests-entryAbove50}
+use Rattle.terms.proofs.IdealLaws.{tests-inside}
+use Rattle.terms.proofs.RowsLaws.{rows-flat, length-flat, rows-size, member-index}
+use Rattle.terms.proofs.RefusalLaws.{accepts-nil, accepts-cons, accepts-refusal, refusal-append}
+use Rattle.division.specs.Janet.{Complete}
+use Rattle.counting.specs.Counts.{countAt, monomialsUpTo}
+use Rattle.counting.specs.Operations.{countChecks}
+use Rattle.counting.proofs.SumLaws.{bit, length-keep, sum-same}
+use Rattle.counting.proofs.CountLaws.{upTo-only}
+
+pub count-ideal : (n : ℕ) (G H : Table) → SameIdeal n G H → (s : ℕ) → countAt n G s ≡ countAt n H s
+unfolding countAt
+count-ideal n G H same s =
+    length-keep (λ q. not (insideTest G q)) (monomialsUpTo n s)
+    ∙ sum-same (λ q. bit (not (insideTest G q))) (λ q. bit (not (insideTest H q))) (monomialsUpTo n s) (λ q m.
+    let e = upTo-only n s q m .0 in
+    ap (λ (b : Bool). bit (not b)) (tests-same (insideTest G q) (insideTest H q) (tests-inside G q)
+    (tests-as (tests-inside H q) (same .back q e) (same .into q e))))
+    ∙ sym (length-keep (λ q. not (insideTest H q)) (monomialsUpTo n s))
+
+-- an entry of the bytes of a table is an exponent of a row
+flat-entry : (G : Table) (e : ℕ) → List·Memᴰ e (flat G) → (u : Monomial) × (u ∈ G) × List·Memᴰ e u
+unfolding flat
+flat-entry [] e m = absurd (List·Memᴰ·not-nil m)
+flat-entry (u ∷ G) e m = ⊎-elim
+    (λ h. (u, List·Memᴰ·head refl, h))
+    (λ h. let r = flat-entry G e h in (r .0, List·Memᴰ·tail (r .1), r .2))
+    (List·Memᴰ·append-cases u m)
+
+-- a table of n exponents a row, within the limits, passes the checks 1 to 4 as bytes
+pub flat-accepted : (n : ℕ) (G : Table) → 0 < n → n ≤ 6 → OfSize n G → length G ≤ 4096 → ((u : Monomial) → u ∈ G → (i : ℕ) → u ! i ≤ 50) → Accepts (tableChecks n (flat G))
+flat-accepted n G p l z few small =
+    accepts-cons (check 1 (lit< tt) (tests-notOneToSix n)) _ (λ h. h (p, l))
+    (accepts-cons (check 2 (lit< tt) (tests-noMultiple n (flat G))) _ (λ h. h (length G) (length-flat n G z))
+    (accepts-cons (check 3 (lit< tt) (tests-tooManyRows n (flat G))) _ (λ h. omega (arith, h, ap length (rows-flat n G p z)))
+    (accepts-cons (check 4 (lit< tt) (tests-entryAbove50 (flat G))) _ large accepts-nil)))
+  where
+    large : (e : ℕ) × List·Memᴰ e (flat G) × (50 < e) → ⊥
+    large r =
+        let w = flat-entry G (r .0) (r .1) in
+        let x = member-index (w .0) 0 (r .0) (w .2) in
+        omega (arith, r .2, small (w .0) (w .1) (suc (x .0)), x .2)

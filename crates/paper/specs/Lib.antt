@@ -1,0 +1,2 @@
+-- What is promised, in one place.
+pub mod Demands

@@ -1,1 +1,3 @@
+-- The demands proved, and the paper's examples.
 pub mod EndToEnd
+pub mod Demands

@@ -9,3 +9,4 @@ pub mod Examples
 pub mod RangeLaws
 pub mod FindLaws
 pub mod SuccessorLaws
+pub mod CompleteLaws

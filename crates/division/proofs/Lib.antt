@@ -8,3 +8,5 @@ pub mod Facade
 pub mod Examples
 pub mod RangeLaws
 pub mod FindLaws
+pub mod SuccessorLaws
+pub mod CompleteLaws

@@ -4,4 +4,5 @@ pub mod Janet
 pub mod Scan
 pub mod Descent
 pub mod Ranges
+pub mod Completeness
 pub mod Operations

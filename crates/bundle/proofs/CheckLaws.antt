@@ -121,8 +121,8 @@ module _ (b : List ℕ) (j k : ℕ) (rest : List Check) where
   pub past-last : k ≤ j → refusal (tablesChecks b j (k - j) ++ rest) ≡ refusal rest
   past-last h = ap (λ (l : List Check). refusal (l ++ rest)) (tables-end b j k h)
 
--- a body of at most 4,096 rows is short
-pub body-bound : (rows n : ℕ) → rows ≤ 4096 → n ≤ 6 → rows * n ≤ 24576
+-- a body's length fits
+pub body-bound : (rows n : ℕ) → rows ≤ 65535 → n ≤ 6 → rows * n ≤ 393210
 body-bound rows n h g = mul-le-mul h g
 
 -- the numbers read are the table's

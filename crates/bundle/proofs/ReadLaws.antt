@@ -89,9 +89,10 @@ module _ (b : List ℕ) (j : ℕ) where
 -- where table j is opened the bundle is accepted, and has a table j
 pub open-accepted : (b : List ℕ) (j : ℕ) → refusal (openChecks b j) ≡ 0 → Accepted b × (j < tableCount b)
 open-accepted b j e =
-    let a = accepted (openChecks b j) e in
-    (accepted-by b (accepts-left (bundleChecks b) (numberChecks b j) a),
-    by-cases (decLe (tableCount b) j) (λ h. absurd (accepts-right (bundleChecks b) (numberChecks b j) a _ (List·Memᴰ·head refl) h)) (λ h. omega arith))
+    let a = accepted (openChecks b j) e in (
+      accepted-by b (accepts-left (bundleChecks b) (numberChecks b j) a),
+      by-cases (decLe (tableCount b) j) (λ h. absurd (accepts-right (bundleChecks b) (numberChecks b j) a _ (List·Memᴰ·head refl) h)) (λ h. omega arith),
+    )
 
 -- what is found lies within the bundle: the body of a table, or nothing at its start
 module _ (b : List ℕ) (j : ℕ) (f : Located) (p : LocatePromise b j f) where

@@ -50,17 +50,18 @@ fn frame_refusal(bundle: &[u8]) -> u8
     if MOST_BYTES < size {
         return 9;
     }
+    let n = byte_at(bundle, 0);
     let tables = byte_at(bundle, 1);
+    let header = 2 + 4 * tables;
     if tables == 0 {
         return 9;
     }
     if MOST_TABLES < tables {
         return 9;
     }
-    if size < 2 + 4 * tables {
+    if size < header {
         return 9;
     }
-    let n = byte_at(bundle, 0);
     if n == 0 {
         return 1;
     }
@@ -76,14 +77,16 @@ fn one_table_refusal(bundle: &[u8], n: usize, j: usize, place: usize) -> u8
     ensures { λ r. ⌜ r ≡ refusal (tableChecksOf (now (bundle .entry)) j) ⌝ }
 {
     let rows = read16(bundle, 2 + 4 * j);
+    let offset = read16(bundle, 4 + 4 * j);
+    let end = place + rows * n;
+    let size = bundle.len();
     if terms::MOST_ROWS < rows {
         return 3;
     }
-    let offset = read16(bundle, 4 + 4 * j);
     if offset != place {
         return 10;
     }
-    if bundle.len() < place + rows * n {
+    if size < end {
         return 11;
     }
     0
@@ -104,10 +107,7 @@ fn tables_refusal(bundle: &[u8], n: usize, tables: usize) -> u8
         place += read16(bundle, 2 + 4 * j) * n;
         j += 1;
     }
-    if place < bundle.len() {
-        return 11;
-    }
-    0
+    if place < bundle.len() { 11 } else { 0 }
 }
 
 // The checks of the bundle's layout: 9, 1, those of each table, bytes that remain.
@@ -161,12 +161,12 @@ pub fn locate(bundle: &[u8], j: usize) -> Located
         };
     }
     let n = byte_at(bundle, 0);
-    let rows = read16(bundle, 2 + 4 * j);
+    let count = read16(bundle, 2 + 4 * j);
     let place = read16(bundle, 4 + 4 * j);
     Located {
         refusal: 0,
         n,
-        rows,
+        rows: count,
         place,
     }
 }
@@ -197,5 +197,10 @@ pub fn open_table<'a>(bundle: &'a [u8], j: usize) -> OpenedTable<'a>
 {
     let found = locate(bundle, j);
     let bytes = part(bundle, found);
-    OpenedTable { bytes, n: found.n, rows: found.rows, refusal: found.refusal }
+    OpenedTable {
+        bytes,
+        n: found.n,
+        rows: found.rows,
+        refusal: found.refusal,
+    }
 }

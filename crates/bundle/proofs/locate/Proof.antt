@@ -1,3 +1,4 @@
+-- `locate` meets its contract: the bundle is refused, it has no such table, or the header says where the table stands.
 use Rattle.bundle.proofs.AcceptedLaws.{accepted-bundle}
 use Rattle.bundle.proofs.CheckLaws.{reads-rows, reads-offset}
 use Rattle.bundle.proofs.ReadLaws.{locate-refused, locate-none, locate-opens}

@@ -24,7 +24,7 @@ use borrow.Author.Tests.{lt-ltb}
 use lib.Count.{ones, ones-le}
 use lib.Dec.{T, ltb}
 use lib.Pow.{pow-mono}
-use lib.ListN.{length, getD, drop, length-append, drop-of-length-le, List·getD-append}
+use lib.ListN.{length, getD, drop, drop-of-length-le}
 use lib.Seq.{drop-cons}
 use mir.Syntax.{w64}
 use mir.Val.{SFits}
@@ -37,7 +37,7 @@ use Rattle.terms.specs.Rows.{rows, padded}
 use Rattle.terms.proofs.MonomialLaws.{beyond, degree-le}
 use Rattle.terms.proofs.RowsLaws.{padded-at, entry-at, row-size, row-within, rows-size, member-at}
 use Rattle.terms.proofs.RefusalLaws.{TableAccepted}
-use Rattle.division.proofs.Facade.{multiplicativeTest, marksOf, tableMarks, marks-ones, marksOf-below, length-tableMarks, tableMarks-at}
+use Rattle.division.proofs.Facade.{multiplicativeTest, marksOf, marks-ones, marksOf-below}
 use Rattle.counting.specs.Counts.{sum, sumℤ, share, marksIn, oddTest, chooseℤ, signedShare, polynomialAt, steadyOf, countAt}
 use Rattle.counting.specs.Sums.{sharesOf, signedSharesOf, Summable, Splits, Checked, Marked}
 use Rattle.counting.proofs.ShareLaws.{share-inside, share-outside}
@@ -104,37 +104,38 @@ ones-marks : (n : ℕ) (H : Table) (u : Monomial) → ones (marksOf n H u) ≡ m
 unfolding marksOf marksIn
 ones-marks n H u = marks-ones (multiplicativeTest H u) n
 
-shares-marks : (s n : ℕ) (H G : Table) (rest : List ℕ) → sharesOf s G (map (marksOf n H) G ++ rest) ≡ sum (janetShare n H s) G
-unfolding sharesOf sum
-shares-marks s n H [] rest = refl
-shares-marks s n H (u ∷ G) rest = ap₂ (λ (x y : ℕ). share s (degree u) x + y) (ones-marks n H u) (shares-marks s n H G rest)
+-- the bytes are the marks that the rows of G have in H
+abbrev MarksIn : ℕ → Table → Table → List ℕ → Type 0
+MarksIn n H G marks = (r : ℕ) → r < length G → getD marks r 0 ≡ marksOf n H (rowAt G r)
 
-signed-marks : (s n : ℕ) (H G : Table) (rest : List ℕ) → signedSharesOf s G (map (marksOf n H) G ++ rest) ≡ sumℤ (λ u. signedShare s (degree u) (marksIn n H u)) G
+shares-marks : (s n : ℕ) (H G : Table) (marks : List ℕ) → length G ≤ length marks → MarksIn n H G marks → sharesOf s G marks ≡ sum (janetShare n H s) G
+unfolding sharesOf sum
+shares-marks s n H [] marks l h = refl
+shares-marks s n H (u ∷ G) [] l h = absurd (not-suc-le-zero l)
+shares-marks s n H (u ∷ G) (b ∷ marks) l h =
+    ap₂ (λ (x y : ℕ). share s (degree u) x + y) (ap ones (h 0 (omega arith)) ∙ ones-marks n H u)
+    (shares-marks s n H G marks (le-of-suc-le-suc l) (λ r k. h (suc r) (omega arith)))
+
+signed-marks : (s n : ℕ) (H G : Table) (marks : List ℕ) → length G ≤ length marks → MarksIn n H G marks → signedSharesOf s G marks ≡ sumℤ (λ u. signedShare s (degree u) (marksIn n H u)) G
 unfolding signedSharesOf sumℤ
-signed-marks s n H [] rest = refl
-signed-marks s n H (u ∷ G) rest = ap₂ (λ (x : ℕ) (y : ℤ). signedShare s (degree u) x +ℤ y) (ones-marks n H u) (signed-marks s n H G rest)
+signed-marks s n H [] marks l h = refl
+signed-marks s n H (u ∷ G) [] l h = absurd (not-suc-le-zero l)
+signed-marks s n H (u ∷ G) (b ∷ marks) l h =
+    ap₂ (λ (x : ℕ) (y : ℤ). signedShare s (degree u) x +ℤ y) (ap ones (h 0 (omega arith)) ∙ ones-marks n H u)
+    (signed-marks s n H G marks (le-of-suc-le-suc l) (λ r k. h (suc r) (omega arith)))
 
 module _ (n : ℕ) (t marks : List ℕ) (m : Marked n t marks) where
   pub shares-marked : (s : ℕ) → sharesOf s (rows n t) marks ≡ sum (janetShare n (rows n t) s) (rows n t)
-  unfolding tableMarks
-  shares-marked s = ap (sharesOf s (rows n t)) (m .front) ∙ shares-marks s n (rows n t) (rows n t) (drop (length (rows n t)) marks)
+  shares-marked s = shares-marks s n (rows n t) (rows n t) marks (m .long) (m .at)
 
   pub signed-marked : (s : ℕ) → signedSharesOf s (rows n t) marks ≡ sumℤ (λ u. signedShare s (degree u) (marksIn n (rows n t) u)) (rows n t)
-  unfolding tableMarks
-  signed-marked s = ap (signedSharesOf s (rows n t)) (m .front) ∙ signed-marks s n (rows n t) (rows n t) (drop (length (rows n t)) marks)
-
-  marks-long : length (rows n t) ≤ length marks
-  marks-long = omega (arith, simp length-append at (ap length (m .front)), length-tableMarks n (rows n t))
+  signed-marked s = signed-marks s n (rows n t) (rows n t) marks (m .long) (m .at)
 
   mark-small : n ≤ 6 → (k : ℕ) → k < length (rows n t) → getD marks k 0 < 64
-  mark-small h k l =
-      let G = rows n t in
-      let e : getD marks k 0 ≡ getD (tableMarks n G ++ drop (length G) marks) k 0 = ap (λ (x : List ℕ). getD x k 0) (m .front) in
-      let f : getD (tableMarks n G ++ drop (length G) marks) k 0 ≡ getD (tableMarks n G) k 0 = List·getD-append (tableMarks n G) (drop (length G) marks) 0 k (omega (arith, length-tableMarks n G)) in
-      omega (arith, tableMarks-at n G k l, marksOf-below n G (rowAt G k), pow-mono {i = n} {j = 6} h)
+  mark-small h k l = omega (arith, m .at k l, marksOf-below n (rows n t) (rowAt (rows n t) k), pow-mono {i = n} {j = 6} h)
 
   pub summable : (s : ℕ) → Checked n t → s ≤ 300 → Summable n t marks s
-  summable s c h = record { accepted = c .accepted; low = h; marked = marks-long; few = mark-small (c .accepted .few) }
+  summable s c h = record { accepted = c .accepted; low = h; marked = m .long; few = mark-small (c .accepted .few) }
 
 -- ---- a share with a sign, by its cases
 

@@ -4,19 +4,19 @@
 --   signedSharesOf s G marks   the same with rule 8's shares
 --   Summable n table marks s   what a pass over the rows asks: the table's limits, s, and a byte of at most six marks a row
 --   Splits c z plus minus   z is plus less minus, and neither exceeds c times the largest binomial
---   Marked n table marks   the bytes begin with Janet's marks of each row of the table
+--   Marked n table marks   byte r has Janet's marks of row r, for each row of the table
 --   Checked n table  what the checks leave: the table's limits, ascending rows, a complete table
 use mathlib.Core.Path.{_≡_}
-use mathlib.Core.List.{List, [], _∷_, _++_}
+use mathlib.Core.List.{List, [], _∷_}
 use Prim.Native.Nat.{ℕ, _+_, _*_, _≤_, _<_}
 use lib.Count.{ones}
-use lib.ListN.{length, getD, drop}
+use lib.ListN.{length, getD}
 use lib.IntN.{ℤ, pos, _+ℤ_, _-ℤ_}
-use Rattle.terms.specs.Monomials.{Table, degree}
+use Rattle.terms.specs.Monomials.{Table, rowAt, degree}
 use Rattle.terms.specs.Order.{Ascending}
 use Rattle.terms.specs.Rows.{rows}
 use Rattle.terms.proofs.RefusalLaws.{TableAccepted}
-use Rattle.division.proofs.Facade.{Complete, tableMarks}
+use Rattle.division.proofs.Facade.{Complete, marksOf}
 use Rattle.counting.specs.Counts.{share, signedShare}
 
 unfoldable pub sharesOf : ℕ → Table → List ℕ → ℕ
@@ -49,4 +49,5 @@ pub record Checked (n : ℕ) (table : List ℕ) : Type 0 where
   pub complete : Complete n (rows n table)
 
 pub record Marked (n : ℕ) (table marks : List ℕ) : Type 0 where
-  pub front : marks ≡ tableMarks n (rows n table) ++ drop (length (rows n table)) marks
+  pub long : length (rows n table) ≤ length marks
+  pub at : (r : ℕ) → r < length (rows n table) → getD marks r 0 ≡ marksOf n (rows n table) (rowAt (rows n table) r)

@@ -2,6 +2,7 @@
 pub mod JanetLaws
 pub mod Cover
 pub mod MarksLaws
+pub mod MarkingLaws
 pub mod NumberLaws
 pub mod DescentLaws
 pub mod Facade

@@ -132,7 +132,7 @@ steady-checked n table e =
     checked n table f (sym (table-passed n table 0 (sym f) (orderChecks n table) refl) ∙ e)
 
 module _ (n : ℕ) (table : List ℕ) (s : ℕ) where
-  abbrev check5 : Check
+  abbrev pub check5 : Check
   check5 = check 5 (lit< tt) (tests-lt 300 s)
 
   pub late-5 : 300 < s → 5 ≡ refusal (check5 ∷ orderChecks n table)

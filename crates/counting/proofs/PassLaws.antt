@@ -7,6 +7,7 @@
 --   splits-..        what a share with a sign is, in each of its cases
 --   splits-add       sums of differences
 --   polynomial-split the polynomial as one difference
+--   marked-front     a buffer whose front holds the marks is marked
 --   summable         a checked and marked table can be summed
 --   count-sum, polynomial-sum   what the sums over a checked and marked table are
 --   small-fits, abs-difference  when a difference fits an i64
@@ -24,7 +25,7 @@ use borrow.Author.Tests.{lt-ltb}
 use lib.Count.{ones, ones-le}
 use lib.Dec.{T, ltb}
 use lib.Pow.{pow-mono}
-use lib.ListN.{length, getD, drop, drop-of-length-le}
+use lib.ListN.{length, getD, drop, length-append, drop-of-length-le, List·getD-append}
 use lib.Seq.{drop-cons}
 use mir.Syntax.{w64}
 use mir.Val.{SFits}
@@ -37,7 +38,7 @@ use Rattle.terms.specs.Rows.{rows, padded}
 use Rattle.terms.proofs.MonomialLaws.{beyond, degree-le}
 use Rattle.terms.proofs.RowsLaws.{padded-at, entry-at, row-size, row-within, rows-size, member-at}
 use Rattle.terms.proofs.RefusalLaws.{TableAccepted}
-use Rattle.division.proofs.Facade.{multiplicativeTest, marksOf, marks-ones, marksOf-below}
+use Rattle.division.proofs.Facade.{multiplicativeTest, marksOf, tableMarks, marks-ones, marksOf-below, length-tableMarks, tableMarks-at}
 use Rattle.counting.specs.Counts.{sum, sumℤ, share, marksIn, oddTest, chooseℤ, signedShare, polynomialAt, steadyOf, countAt}
 use Rattle.counting.specs.Sums.{sharesOf, signedSharesOf, Summable, Splits, Checked, Marked}
 use Rattle.counting.proofs.ShareLaws.{share-inside, share-outside}
@@ -61,7 +62,7 @@ degree-limit (a ∷ u) h = omega (arith, h 1, degree-limit u rest)
     rest (suc i) = h (suc (suc i))
 
 module _ (n : ℕ) (t : List ℕ) (a : TableAccepted n t) (k : ℕ) (l : k < length (rows n t)) where
-  entry-small : (i : ℕ) → rowAt (rows n t) k ! i ≤ 50
+  pub entry-small : (i : ℕ) → rowAt (rows n t) k ! i ≤ 50
   entry-small zero = omega arith
   entry-small (suc i) = by-cases (decLt i n)
       (λ h. omega (arith, entry-at n t k i l h, a .small (getD t (k * n + i) 0) (member-at t 0 (k * n + i) (omega (arith, row-within n t k l)))))
@@ -136,6 +137,16 @@ module _ (n : ℕ) (t marks : List ℕ) (m : Marked n t marks) where
 
   pub summable : (s : ℕ) → Checked n t → s ≤ 300 → Summable n t marks s
   summable s c h = record { accepted = c .accepted; low = h; marked = m .long; few = mark-small (c .accepted .few) }
+
+-- a buffer whose front holds the marks
+pub marked-front : (n : ℕ) (t rest marks : List ℕ) → marks ≡ tableMarks n (rows n t) ++ rest → Marked n t marks
+marked-front n t rest marks e = record {
+  long = omega (arith, simp length-append at (ap length e), length-tableMarks n (rows n t));
+  at = λ r l.
+      ap (λ (x : List ℕ). getD x r 0) e
+      ∙ List·getD-append (tableMarks n (rows n t)) rest 0 r (omega (arith, length-tableMarks n (rows n t)))
+      ∙ tableMarks-at n (rows n t) r l;
+}
 
 -- ---- a share with a sign, by its cases
 

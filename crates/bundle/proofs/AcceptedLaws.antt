@@ -16,7 +16,7 @@ use native.Mathlib.Omega.{arith}
 use lib.Dec.{ltb}
 use lib.ListN.{length, take, drop, take-append-drop, drop-of-length-le, length-drop}
 use lib.Seq.{drop-drop, length-take-le}
-use Rattle.terms.specs.Tests.{any, tests-same}
+use Rattle.terms.specs.Tests.{any, tests-same, tests-as}
 use Rattle.terms.specs.Rows.{flat}
 use Rattle.terms.specs.Refusals.{refusal, Accepts, NotOneToSix, NoMultiple, TooManyRows, EntryAbove50, tests-entryAbove50, tableChecks}
 use Rattle.terms.proofs.RowsLaws.{length-rows, flat-rows}
@@ -44,7 +44,8 @@ laid-accepts b a =
     let rest = tablesChecks b 0 (tableCount b) ++ remainChecks b in
     let frame = framed-accepts b (accepts-left (frameChecks b) rest a) in
     let later = accepts-right (frameChecks b) rest a in
-    let each : (j : ℕ) → j < tableCount b → TableLaid b j = λ j h. tables-laid b (tableCount b) 0 (accepts-left (tablesChecks b 0 (tableCount b)) (remainChecks b) later) j (omega arith) (omega arith) in
+    let first = accepts-left (tablesChecks b 0 (tableCount b)) (remainChecks b) later in
+    let each : (j : ℕ) → j < tableCount b → TableLaid b j = λ j h. tables-laid b (tableCount b) 0 first j (omega arith) (omega arith) in
     let last = last-within b (tableCount b) (frame .someTables) each in
     record {
       frame = frame;
@@ -94,15 +95,16 @@ in-body b e (suc n) j h m =
 -- and an element of a body stands behind the header
 behind-header : (b : List ℕ) (e j : ℕ) → List·Memᴰ e (bodyOf b j) → List·Memᴰ e (drop (headerLength b) b)
 behind-header b e j m =
-    let d : headerLength b + (placeOf b j - headerLength b) ≡ placeOf b j = omega (arith, place-from b j) in
-    let s : drop (placeOf b j - headerLength b) (drop (headerLength b) b) ≡ drop (placeOf b j) b = drop-drop (placeOf b j - headerLength b) (headerLength b) b ∙ ap (λ (k : ℕ). drop k b) d in
-    member-drop (placeOf b j - headerLength b) e (drop (headerLength b) b)
+    let x = placeOf b j - headerLength b in
+    let d : headerLength b + x ≡ placeOf b j = omega (arith, place-from b j) in
+    let s : drop x (drop (headerLength b) b) ≡ drop (placeOf b j) b = drop-drop x (headerLength b) b ∙ ap (λ (k : ℕ). drop k b) d in
+    member-drop x e (drop (headerLength b) b)
     (subst (List·Memᴰ e) (sym s) (member-take (bodyLength b j) e (drop (placeOf b j) b) m))
 
 -- so one pass over what stands behind the header decides 4
 pub entries-here : (b : List ℕ) → Laid b → any (λ e. ltb 50 e) (drop (headerLength b) b) ≡ largeEntryTest b
 unfolding placeOf
-entries-here b laid = tests-same _ _ (tests-entryAbove50 (drop (headerLength b) b)) (record { sound = λ t. into (tests-largeEntry b .sound t); complete = λ p. tests-largeEntry b .complete (back p) })
+entries-here b laid = tests-same _ _ (tests-entryAbove50 (drop (headerLength b) b)) (tests-as (tests-largeEntry b) into back)
   where
     into : SomeBelow (tableCount b) (λ j. EntryAbove50 (bodyOf b j)) → EntryAbove50 (drop (headerLength b) b)
     into r = (r .2 .0, behind-header b (r .2 .0) (r .0) (r .2 .1), r .2 .2)
@@ -124,7 +126,8 @@ pub accepted-by : (b : List ℕ) → Accepts (bundleChecks b) → Accepted b
 accepted-by b a =
     record {
       layout = laid-accepts b (accepts-left (layoutChecks b) (entryChecks b) a);
-      small = λ j x h m. by-cases (decLe x 50) (λ l. l) (λ g. absurd (accepts-right (layoutChecks b) (entryChecks b) a _ (List·Memᴰ·head refl) (j, h, (x, m, omega arith))));
+      small = λ j x h m. by-cases (decLe x 50) (λ l. l) 
+          (λ g. absurd (accepts-right (layoutChecks b) (entryChecks b) a _ (List·Memᴰ·head refl) (j, h, (x, m, omega arith))));
     }
 
 pub accepted-bundle : (b : List ℕ) → refusal (bundleChecks b) ≡ 0 → Accepted b
@@ -145,7 +148,9 @@ module _ (b : List ℕ) (a : Laid b) (j : ℕ) (h : j < tableCount b) where
 
   -- and the rows end to end are the body
   pub flat-table : flat (tableOf b j) ≡ bodyOf b j
-  flat-table = flat-rows (variablesOf b) (bodyOf b j) (length-body ∙ ap (λ (m : ℕ). m * variablesOf b) (sym length-table ∙ length-rows (variablesOf b) (bodyOf b j)))
+  flat-table =
+      let e : rowCount b j ≡ length (bodyOf b j) / variablesOf b = sym length-table ∙ length-rows (variablesOf b) (bodyOf b j) in
+      flat-rows (variablesOf b) (bodyOf b j) (length-body ∙ ap (λ (m : ℕ). m * variablesOf b) e)
 
 -- each table of an accepted bundle passes the checks of a table
 pub table-passes-checks : (b : List ℕ) → Accepted b → (j : ℕ) → j < tableCount b → refusal (tableChecks (variablesOf b) (bodyOf b j)) ≡ 0

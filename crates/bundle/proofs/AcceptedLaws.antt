@@ -3,7 +3,7 @@
 --   Laid, laid               what is known of a bundle whose layout passed: frame, each table's rows and place, its end
 --   from-place               what stands from body j on is body j and what stands from the next on
 --   entries-here             4 over all bodies is one pass over what stands behind the header
---   Accepted, accepted-bundle   what is known of an accepted bundle
+--   Accepted, accepted-bundle, bundle-accepted   what is known of an accepted bundle, and that this is enough
 --   length-body, length-table, flat-table   a table of it: the length of its body, its number of rows, its bytes again
 --   table-passes-checks      a table of it passes the checks 1 to 4 that every operation on a table begins with
 use mathlib.Core.Path.{_≡_, refl, sym, ap, _∙_, subst}
@@ -22,9 +22,10 @@ use Rattle.terms.specs.Refusals.{refusal, Accepts, NotOneToSix, NoMultiple, Too
 use Rattle.terms.proofs.RowsLaws.{length-rows, flat-rows}
 use Rattle.terms.proofs.RefusalLaws.{accepted, refusal-passes}
 use Rattle.bundle.specs.Some.{SomeBelow}
-use Rattle.bundle.specs.Format.{variablesOf, tableCount, headerLength, rowCount, bodyLength, placeOf, bodyOf, tableOf}
-use Rattle.bundle.specs.Checks.{frameChecks, tablesChecks, remainChecks, layoutChecks, entryChecks, bundleChecks, largeEntryTest, tests-largeEntry}
-use Rattle.bundle.proofs.CheckLaws.{refusal-none, accepts-left, accepts-right, Framed, framed-accepts, TableLaid, tables-laid}
+use Rattle.bundle.specs.Format.{variablesOf, tableCount, headerLength, rowCount, offsetOf, bodyLength, placeOf, bodyOf, tableOf}
+use Rattle.bundle.specs.Checks.{LargeEntry, frameChecks, tableChecksOf, tablesChecks, remainChecks, layoutChecks, entryChecks, bundleChecks, largeEntryTest, tests-largeEntry}
+use Rattle.bundle.proofs.CheckLaws.{refusal-none, passes-first, accepts-left, accepts-right}
+use Rattle.bundle.proofs.CheckLaws.{Framed, framed-accepts, has-frame, frame-passes, TableLaid, tables-laid, table-passes}
 
 -- ---- the layout
 
@@ -132,6 +133,33 @@ accepted-by b a =
 
 pub accepted-bundle : (b : List ℕ) → refusal (bundleChecks b) ≡ 0 → Accepted b
 accepted-bundle b e = accepted-by b (accepted (bundleChecks b) e)
+
+-- ---- and this is enough: a bundle of which it holds is accepted
+
+table-enough : (b : List ℕ) (j : ℕ) → TableLaid b j → refusal (tableChecksOf b j) ≡ 0
+table-enough b j t = sym (table-passes b j (rowCount b j) (offsetOf b j) refl refl (t .limited) (t .begins) (t .within))
+
+tables-enough : (b : List ℕ) (m j : ℕ) → ((i : ℕ) → j ≤ i → i < j + m → TableLaid b i) → refusal (tablesChecks b j m) ≡ 0
+unfolding tablesChecks
+tables-enough b zero j f = refusal-none
+tables-enough b (suc m) j f =
+    let rest : 0 ≡ refusal (tablesChecks b (suc j) m) = sym (tables-enough b m (suc j) (λ i g h. f i (omega arith) (omega arith))) in
+    sym (passes-first (tableChecksOf b j) (tablesChecks b (suc j) m) 0 (table-enough b j (f j (omega arith) (omega arith))) rest)
+
+laid-enough : (b : List ℕ) → Laid b → refusal (layoutChecks b) ≡ 0
+laid-enough b l =
+    let f = l .frame in
+    let frame : 0 ≡ refusal (frameChecks b) = frame-passes b (has-frame b (f .long) (f .short) (f .someTables) (f .fewTables) (f .header)) (f .someVariables) (f .fewVariables) in
+    let tables : refusal (tablesChecks b 0 (tableCount b)) ≡ 0 = tables-enough b (tableCount b) 0 (λ i g h. l .tables i (omega arith)) in
+    let none : placeOf b (tableCount b) < length b → ⊥ = λ h. omega (arith, l .ends) in
+    let remain : 0 ≡ refusal (remainChecks b) = sym (refusal-passes _ _ none ∙ refusal-none) in
+    sym (passes-first (frameChecks b) (tablesChecks b 0 (tableCount b) ++ remainChecks b) 0 (sym frame)
+    (passes-first (tablesChecks b 0 (tableCount b)) (remainChecks b) 0 tables remain))
+
+pub bundle-accepted : (b : List ℕ) → Accepted b → refusal (bundleChecks b) ≡ 0
+bundle-accepted b a =
+    let none : LargeEntry b → ⊥ = λ r. omega (arith, a .small (r .0) (r .2 .0) (r .1) (r .2 .1), r .2 .2) in
+    sym (passes-first (layoutChecks b) (entryChecks b) 0 (laid-enough b (a .layout)) (sym (refusal-passes _ _ none ∙ refusal-none)))
 
 -- ---- the tables of an accepted bundle
 

@@ -187,7 +187,8 @@ module _ (b : List ℕ) (k : ℕ) (count : k ≡ tableCount b) where
   unfolding placeOf
   passed-first f = record { below = omega arith; here = rw count; within = omega (arith, f .header); same = let e : k - 0 ≡ k = omega arith in rw e }
 
-  pub passed-next : (place j rows n : ℕ) → Passed b k place j → j < k → 0 ≡ refusal (tableChecksOf b j) → rows ≡ number16 b (2 + 4 * j) → n ≡ variablesOf b → Passed b k (place + rows * n) (j + 1)
+  pub passed-next : (place j rows n : ℕ) → Passed b k place j → j < k → 0 ≡ refusal (tableChecksOf b j)
+      → rows ≡ number16 b (2 + 4 * j) → n ≡ variablesOf b → Passed b k (place + rows * n) (j + 1)
   unfolding placeOf rowCount
   passed-next place j rows n p h e r v =
       let t = table-laid b j (sym e) in

@@ -74,7 +74,8 @@ module _ (b : List ℕ) (j : ℕ) where
   locate-none e h = refused-zeros 5 (passes-first (bundleChecks b) (numberChecks b j) 5 e (sym (refusal-holds _ _ h))) (λ x. omega arith)
 
   -- table j is opened: the header's offset is its place
-  pub locate-opens : (n rows place : ℕ) → refusal (bundleChecks b) ≡ 0 → j < tableCount b → n ≡ variablesOf b → rows ≡ rowCount b j → place ≡ offsetOf b j → LocatePromise b j (record { refusal = 0; n = n; rows = rows; place = place })
+  pub locate-opens : (n rows place : ℕ) → refusal (bundleChecks b) ≡ 0 → j < tableCount b → n ≡ variablesOf b → rows ≡ rowCount b j → place ≡ offsetOf b j
+      → LocatePromise b j (record { refusal = 0; n = n; rows = rows; place = place })
   locate-opens n rows place e h v r o =
       let f : tableCount b ≤ j → ⊥ = λ x. omega arith in
       let p : 0 ≡ refusal (openChecks b j) = passes-first (bundleChecks b) (numberChecks b j) 0 e (sym (refusal-passes _ _ f ∙ refusal-none)) in

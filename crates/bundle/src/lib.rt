@@ -139,6 +139,13 @@ pub fn bundle_refusal(bundle: &[u8]) -> u8
     0
 }
 
+// The number of tables that a bundle says it has.
+pub fn table_count(bundle: &[u8]) -> usize
+    ensures { λ r. ⌜ (r ≡ tableCount (now (bundle .entry))) × (r < 256) ⌝ }
+{
+    if bundle.len() < 2 { 0 } else { byte_at(bundle, 1) }
+}
+
 // The refusal, n, the row count and the place of table j.
 pub fn locate(bundle: &[u8], j: usize) -> Located
     ensures { λ r. ⌜ LocatePromise (now (bundle .entry)) j r ⌝ }

@@ -35,13 +35,19 @@ returns-5 : tie.Need-returns-5
 returns-5 c = frame-nine (c .before .before .before .before .before .before .before .before .args .bundle .now) (inr (inr (inr (omega arith))))
 
 returns-6 : tie.Need-returns-6
-returns-6 c = frame-one (c .before .before .before .before .before .before .before .before .before .args .bundle .now) (has-frame (c .before .before .before .before .before .before .before .before .before .args .bundle .now) (omega arith) (omega arith) (omega arith) (omega arith) (omega arith)) (λ h. omega (arith, h .0))
+returns-6 c =
+    let b = c .before .before .before .before .before .before .before .before .before .args .bundle .now in
+    frame-one b (has-frame b (omega arith) (omega arith) (omega arith) (omega arith) (omega arith)) (λ h. omega (arith, h .0))
 
 returns-7 : tie.Need-returns-7
-returns-7 c = frame-one (c .before .before .before .before .before .before .before .before .before .before .args .bundle .now) (has-frame (c .before .before .before .before .before .before .before .before .before .before .args .bundle .now) (omega arith) (omega arith) (omega arith) (omega arith) (omega arith)) (λ h. omega (arith, h .1))
+returns-7 c =
+    let b = c .before .before .before .before .before .before .before .before .before .before .args .bundle .now in
+    frame-one b (has-frame b (omega arith) (omega arith) (omega arith) (omega arith) (omega arith)) (λ h. omega (arith, h .1))
 
 returns-8 : tie.Need-returns-8
-returns-8 c = frame-passes (c .before .before .before .before .before .before .before .before .before .before .args .bundle .now) (has-frame (c .before .before .before .before .before .before .before .before .before .before .args .bundle .now) (omega arith) (omega arith) (omega arith) (omega arith) (omega arith)) (omega arith) (omega arith)
+returns-8 c =
+    let b = c .before .before .before .before .before .before .before .before .before .before .args .bundle .now in
+    frame-passes b (has-frame b (omega arith) (omega arith) (omega arith) (omega arith) (omega arith)) (omega arith) (omega arith)
 
 pub frame-refusal-spec : {M : Type 1} → statement M
 frame-refusal-spec =

@@ -105,7 +105,9 @@ loop-again c =
     let a = c .before .before .before .before .before .before .args in
     let q = c .before .before .before .before .before .before .pre in
     let l = c .before .before .before .before .loop in
-    passed-next (a .bundle .now) (a .tables) (q .2) (l .place) (l .j) _ (a .n) (l .inv) (c .before .before .before .loop-test .taken) (sym (c .before .if1 .left) ∙ c .before .before .one-table-refusal .ensures) (c .read16 .ensures .0) (q .1)
+    let more = c .before .before .before .loop-test .taken in
+    let passed = sym (c .before .if1 .left) ∙ c .before .before .one-table-refusal .ensures in
+    passed-next (a .bundle .now) (a .tables) (q .2) (l .place) (l .j) _ (a .n) (l .inv) more passed (c .read16 .ensures .0) (q .1)
 
 returns-2 : tie.Need-returns-2 Inv-loop μ-loop
 returns-2 c =

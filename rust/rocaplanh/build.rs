@@ -11,7 +11,10 @@ fn main() {
     let archive = folder.join("libinterface.a");
     println!("cargo:rerun-if-changed={}", archive.display());
     if !archive.is_file() {
-        eprintln!("{} is missing: run `rt staticlib interface`, or set ROCAPLANH_ARCHIVE to its folder", archive.display());
+        eprintln!(
+            "{} is missing: run `rt staticlib interface`, or set ROCAPLANH_ARCHIVE to its folder",
+            archive.display()
+        );
         std::process::exit(1);
     }
     println!("cargo:rustc-link-search=native={}", folder.display());

@@ -4,7 +4,7 @@
 //! before. If they enlarge their ideal, the block of rows last written is repeated for the exponents between, and the
 //! block of the enlarged ideal follows. A block is itself a set of generators and takes their place where it is shorter.
 
-use crate::packed::{any_divides, byte, pack, unpack};
+use crate::packed::{any_divides, byte, pack_all, unpack_all};
 use crate::staircase::Staircase;
 use std::ops::Range;
 
@@ -34,12 +34,12 @@ impl Rows {
         self.refused
     }
 
-    /// Appends a row.
-    pub fn push(&mut self, word: u64) {
-        if self.words.len() < self.room {
-            self.words.push(word);
-        } else {
+    /// Appends some rows.
+    pub fn append(&mut self, words: impl ExactSizeIterator<Item = u64>) {
+        if self.words.len() + words.len() > self.room {
             self.refused = true;
+        } else {
+            self.words.extend(words);
         }
     }
 
@@ -51,25 +51,23 @@ impl Rows {
             return;
         }
         for time in 1..=times as u64 {
-            for at in block.clone() {
-                self.words.push(self.words[at] + (time << shift));
-            }
+            let start = self.words.len();
+            self.words.extend_from_within(block.clone());
+            self.words[start..].iter_mut().for_each(|word| *word += time << shift);
         }
     }
 }
 
 /// Writes the completed table to the buffer's front and gives its number of rows, or nothing where it does not fit.
 pub fn complete(n: usize, table: &[u8], buffer: &mut [u8]) -> Option<usize> {
-    let words: Vec<u64> = table.chunks_exact(n).map(pack).collect();
+    let words = pack_all(n, table);
     let room = MOST_ROWS.min(buffer.len() / n);
     let mut rows = Rows { words: Vec::with_capacity(room.min(64)), room, refused: false };
     level(n, &words, 0, &mut rows);
     if rows.refused {
         return None;
     }
-    for (row, &word) in buffer.chunks_exact_mut(n).zip(&rows.words) {
-        unpack(word, row);
-    }
+    unpack_all(n, &rows.words, buffer);
     Some(rows.len())
 }
 
@@ -85,7 +83,7 @@ fn level(variables: usize, table: &[u64], head: u64, rows: &mut Rows) {
 /// At most three variables: one staircase. Variables that are missing before them stay 0.
 fn last_three(variables: usize, table: &[u64], head: u64, rows: &mut Rows) {
     debug_assert!(variables <= 3);
-    let mut stairs = Staircase::new();
+    let mut stairs = Staircase::new(table);
     for &word in table {
         stairs.enter(word);
     }
@@ -131,7 +129,7 @@ impl ByHead {
 /// Four variables: the tails enter one staircase, which is read off whenever it grew.
 fn four(table: &[u64], head: u64, rows: &mut Rows) {
     let by_head = ByHead::new(table, 3);
-    let mut stairs = Staircase::new();
+    let mut stairs = Staircase::new(table);
     let mut block = rows.len()..rows.len();
     let mut last = 0;
     for exponent in 0..=by_head.largest {
@@ -175,13 +173,12 @@ fn more(variables: usize, table: &[u64], head: u64, rows: &mut Rows) {
     }
 }
 
-/// Appends the tails that no generator divides; says whether there are any.
+/// Appends the tails where they enlarge the ideal of the generators; says whether they do. Once one of them does, all are
+/// taken: to test each would cost more than what is saved below.
 fn join(generators: &mut Vec<u64>, added: &[u64], tail: u64) -> bool {
-    let before = generators.len();
-    for word in added {
-        if !any_divides(&generators[..before], word & tail) {
-            generators.push(word & tail);
-        }
+    let grows = added.iter().any(|word| !any_divides(generators, word & tail));
+    if grows {
+        generators.extend(added.iter().map(|word| word & tail));
     }
-    generators.len() > before
+    grows
 }

@@ -5,11 +5,16 @@ use crate::division::{ascending_marks, find_by_descent};
 /// The number of monomials of degree at most s outside the ideal; nothing for a table that is not complete and ascending.
 pub fn count(n: usize, table: &[u8], s: usize) -> Option<u64> {
     let mut marks = vec![0; table.len() / n];
-    if table.iter().any(|&entry| entry > 50) || !ascends(n, table) {
+    if !is_valid(n, table) {
         return None;
     }
     ascending_marks(n, table, &mut marks);
     is_complete(n, table, &marks).then(|| cone_sum(n, table, &marks, s))
+}
+
+/// The checks that find makes too: entries at most 50, and rows that ascend strictly.
+pub fn is_valid(n: usize, table: &[u8]) -> bool {
+    table.iter().all(|&entry| entry <= 50) && ascends(n, table)
 }
 
 /// Each row is below the next.
@@ -34,7 +39,11 @@ fn cone_sum(n: usize, table: &[u8], marks: &[u8], s: usize) -> u64 {
     let share = |(row, &mark): (&[u8], &u8)| {
         let degree: usize = row.iter().map(|&e| usize::from(e)).sum();
         let marked = mark.count_ones() as usize;
-        if degree > s { 0 } else { binomial(s - degree + marked, marked) }
+        if degree > s {
+            0
+        } else {
+            binomial(s - degree + marked, marked)
+        }
     };
     binomial(n + s, n) - table.chunks_exact(n).zip(marks).map(share).sum::<u64>()
 }

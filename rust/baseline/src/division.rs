@@ -60,7 +60,11 @@ fn end_of_run(exponent: &impl Fn(usize) -> u8, at: usize, to: usize) -> usize {
     let mut high = to.min(low + stride);
     while low < high {
         let middle = (low + high) / 2;
-        if exponent(middle) == own { low = middle + 1 } else { high = middle }
+        if exponent(middle) == own {
+            low = middle + 1
+        } else {
+            high = middle
+        }
     }
     low
 }

@@ -71,3 +71,10 @@ fn bundles_agree() {
     assert_eq!(bundle::open(&bundle, 2), None);
     assert_eq!(bundle::open(&bundle[..15], 0), None);
 }
+
+#[test]
+fn listings_agree() {
+    let bundle = [2, 2, 1, 0, 10, 0, 2, 0, 12, 0, 5, 6, 2, 1, 0, 2];
+    let expected = second::listing::listing(&bundle).into_bytes();
+    assert_eq!(baseline::listing::listing(&bundle), Some(expected));
+}

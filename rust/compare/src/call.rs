@@ -91,12 +91,20 @@ fn part(lent: &mut [u8]) -> &mut [u8] {
 
 /// A slice's pointer as a C program may pass it: NULL when there is nothing to point to.
 fn pointer(bytes: &[u8]) -> *const u8 {
-    if bytes.is_empty() { ptr::null() } else { bytes.as_ptr() }
+    if bytes.is_empty() {
+        ptr::null()
+    } else {
+        bytes.as_ptr()
+    }
 }
 
 /// The same for a slice that is written.
 fn pointer_mut(bytes: &mut [u8]) -> *mut u8 {
-    if bytes.is_empty() { ptr::null_mut() } else { bytes.as_mut_ptr() }
+    if bytes.is_empty() {
+        ptr::null_mut()
+    } else {
+        bytes.as_mut_ptr()
+    }
 }
 
 /// The archive's answer.
@@ -119,16 +127,14 @@ pub fn by_archive(call: &Call) -> Answer {
 fn archive_marks(n: usize, table: &[u8], buffer: usize) -> Answer {
     let mut lent = lend(buffer);
     let marks = part(&mut lent);
-    let refusal =
-        unsafe { archive::rocaplanh_marks(n, pointer(table), table.len(), pointer_mut(marks), marks.len()) };
+    let refusal = unsafe { archive::rocaplanh_marks(n, pointer(table), table.len(), pointer_mut(marks), marks.len()) };
     Answer { refusal, numbers: [0; 3], lent }
 }
 
 fn archive_inside(n: usize, table: &[u8], query: &[u8]) -> Answer {
     let mut row = UNWRITTEN;
-    let refusal = unsafe {
-        archive::rocaplanh_inside(n, pointer(table), table.len(), pointer(query), query.len(), &mut row)
-    };
+    let refusal =
+        unsafe { archive::rocaplanh_inside(n, pointer(table), table.len(), pointer(query), query.len(), &mut row) };
     Answer::numbers(refusal, [row.into(), 0, 0])
 }
 
@@ -170,25 +176,22 @@ fn archive_steady(n: usize, table: &[u8]) -> Answer {
 
 fn archive_open(bundle: &[u8], table: usize) -> Answer {
     let (mut n, mut rows, mut offset) = (UNWRITTEN, UNWRITTEN, UNWRITTEN);
-    let refusal = unsafe {
-        archive::rocaplanh_open(pointer(bundle), bundle.len(), table, &mut n, &mut rows, &mut offset)
-    };
+    let refusal =
+        unsafe { archive::rocaplanh_open(pointer(bundle), bundle.len(), table, &mut n, &mut rows, &mut offset) };
     Answer::numbers(refusal, [n.into(), rows.into(), offset.into()])
 }
 
 /// The second program's answer.
 pub fn by_second(call: &Call) -> Answer {
     match call {
-        Call::Marks { n, table, buffer } => {
-            second_lent(*buffer, |lent| operations::marks(*n, table, lent).map(|()| 0))
-        }
+        Call::Marks { n, table, buffer } => second_lent(*buffer, |lent| operations::marks(*n, table, lent).map(|()| 0)),
         Call::Complete { n, table, buffer } => second_lent(*buffer, |lent| operations::complete(*n, table, lent)),
         Call::Inside { n, table, query } => {
             Answer::of(operations::inside(*n, table, query).map(|row| [row_number(row), 0, 0]))
         }
-        Call::Find { n, table, query } => Answer::of(
-            operations::find(*n, table, query).map(|found| [row_number(found.row), found.steps as u64, 0]),
-        ),
+        Call::Find { n, table, query } => {
+            Answer::of(operations::find(*n, table, query).map(|found| [row_number(found.row), found.steps as u64, 0]))
+        }
         Call::Count { n, table, degree } => {
             Answer::of(operations::count(*n, table, *degree as usize).map(|value| [value, 0, 0]))
         }

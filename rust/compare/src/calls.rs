@@ -73,7 +73,11 @@ fn nearly_complete(random: &mut Random, n: usize) -> Table {
 
 /// The table, damaged once in `times`.
 fn perhaps_damaged(random: &mut Random, table: Table, times: usize) -> Table {
-    if random.once_in(times) { tables::damage(random, table) } else { table }
+    if random.once_in(times) {
+        tables::damage(random, table)
+    } else {
+        table
+    }
 }
 
 /// A buffer's length: exact, one short, longer, none, or any.
@@ -105,7 +109,11 @@ fn query(random: &mut Random, table: &Table) -> Vec<u8> {
 
 /// An exponent beside another: a little less, or more by up to `most`.
 fn near(random: &mut Random, exponent: u8, most: u8) -> u8 {
-    if random.once_in(3) { exponent.saturating_sub(1 + random.byte(1)) } else { exponent.saturating_add(random.byte(most)) }
+    if random.once_in(3) {
+        exponent.saturating_sub(1 + random.byte(1))
+    } else {
+        exponent.saturating_add(random.byte(most))
+    }
 }
 
 /// A degree: mostly small, sometimes at or above the largest allowed.

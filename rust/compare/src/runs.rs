@@ -37,8 +37,9 @@ pub fn all(program: &Path, random: &mut Random, wanted: usize, report: &mut Repo
         seen.add(bundle, &expected);
     }
     seen.print();
-    for lacking in seen.lacks() {
-        println!("the runs lack: {lacking}");
+    let lacking = seen.lacks();
+    if !lacking.is_empty() {
+        println!("the runs lack: {}", lacking.join("; "));
         report.fail();
     }
 }

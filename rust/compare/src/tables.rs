@@ -21,7 +21,7 @@ pub struct Table {
 impl Table {
     /// The number of whole rows; 0 for a damaged n of 0.
     pub fn rows(&self) -> usize {
-        if self.n == 0 { 0 } else { self.bytes.len() / self.n }
+        self.bytes.len().checked_div(self.n).unwrap_or(0)
     }
 
     /// The bytes of a row.

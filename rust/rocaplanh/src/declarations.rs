@@ -11,21 +11,37 @@
 
 extern "C" {
     /// The marks of each row, to the front of `marks`.
-    pub fn rocaplanh_marks(n: usize, table: *const u8, table_length: usize, marks: *mut u8, marks_length: usize) -> u32;
+    pub fn rocaplanh_marks(n: usize, table: *const u8, table_length: usize, marks: *mut u8, marks_length: usize)
+        -> u32;
 
     /// The first row that divides the query, 65,535 for none.
     pub fn rocaplanh_inside(
-        n: usize, table: *const u8, table_length: usize, query: *const u8, query_length: usize, row: *mut u32,
+        n: usize,
+        table: *const u8,
+        table_length: usize,
+        query: *const u8,
+        query_length: usize,
+        row: *mut u32,
     ) -> u32;
 
     /// The completed table, to the front of `rows`, and its number of rows.
     pub fn rocaplanh_complete(
-        n: usize, table: *const u8, table_length: usize, rows: *mut u8, rows_length: usize, count: *mut u32,
+        n: usize,
+        table: *const u8,
+        table_length: usize,
+        rows: *mut u8,
+        rows_length: usize,
+        count: *mut u32,
     ) -> u32;
 
     /// The Janet divisor's row, 65,535 for none, and the steps of the descent.
     pub fn rocaplanh_find(
-        n: usize, table: *const u8, table_length: usize, query: *const u8, query_length: usize, row: *mut u32,
+        n: usize,
+        table: *const u8,
+        table_length: usize,
+        query: *const u8,
+        query_length: usize,
+        row: *mut u32,
         steps: *mut u32,
     ) -> u32;
 
@@ -40,6 +56,11 @@ extern "C" {
 
     /// A table of a bundle: its n, its rows, and where its body begins.
     pub fn rocaplanh_open(
-        bundle: *const u8, bundle_length: usize, table: usize, n: *mut u32, rows: *mut u32, offset: *mut u32,
+        bundle: *const u8,
+        bundle_length: usize,
+        table: usize,
+        n: *mut u32,
+        rows: *mut u32,
+        offset: *mut u32,
     ) -> u32;
 }

@@ -54,7 +54,11 @@ impl std::error::Error for Refusal {}
 
 /// The answer of a C function that returned this number.
 fn answered<T>(returned: u32, answer: T) -> Result<T, Refusal> {
-    if returned == 0 { Ok(answer) } else { Err(Refusal(returned)) }
+    if returned == 0 {
+        Ok(answer)
+    } else {
+        Err(Refusal(returned))
+    }
 }
 
 /// A row number, or none.
@@ -72,8 +76,7 @@ pub fn marks(n: usize, table: &[u8], marks: &mut [u8]) -> Result<(), Refusal> {
 /// The first row that divides the query.
 pub fn inside(n: usize, table: &[u8], query: &[u8]) -> Result<Option<usize>, Refusal> {
     let mut row = 0;
-    let returned =
-        unsafe { rocaplanh_inside(n, table.as_ptr(), table.len(), query.as_ptr(), query.len(), &mut row) };
+    let returned = unsafe { rocaplanh_inside(n, table.as_ptr(), table.len(), query.as_ptr(), query.len(), &mut row) };
     answered(returned, row_or_none(row))
 }
 
@@ -105,9 +108,8 @@ pub struct Found {
 /// The Janet divisor of the query; the rows must ascend strictly.
 pub fn find(n: usize, table: &[u8], query: &[u8]) -> Result<Found, Refusal> {
     let (mut row, mut steps) = (0, 0);
-    let returned = unsafe {
-        rocaplanh_find(n, table.as_ptr(), table.len(), query.as_ptr(), query.len(), &mut row, &mut steps)
-    };
+    let returned =
+        unsafe { rocaplanh_find(n, table.as_ptr(), table.len(), query.as_ptr(), query.len(), &mut row, &mut steps) };
     answered(returned, Found { row: row_or_none(row), steps: steps as usize })
 }
 
@@ -146,8 +148,7 @@ pub struct Opened<'a> {
 /// Table `table` of a bundle, counted from 0.
 pub fn open(bundle: &[u8], table: usize) -> Result<Opened<'_>, Refusal> {
     let (mut n, mut rows, mut offset) = (0, 0, 0);
-    let returned =
-        unsafe { rocaplanh_open(bundle.as_ptr(), bundle.len(), table, &mut n, &mut rows, &mut offset) };
+    let returned = unsafe { rocaplanh_open(bundle.as_ptr(), bundle.len(), table, &mut n, &mut rows, &mut offset) };
     let (n, rows, offset) = (n as usize, rows as usize, offset as usize);
     answered(returned, ())?;
     Ok(Opened { n, rows, body: &bundle[offset..offset + n * rows] })

@@ -58,10 +58,10 @@ fn checked_header(bundle: &[u8]) -> Result<(usize, usize), Refusal> {
         return Err(9);
     }
     let (n, tables) = (usize::from(bundle[0]), usize::from(bundle[1]));
-    if tables < 1 || tables > MOST_TABLES || bundle.len() < 2 + 4 * tables {
+    if !(1..=MOST_TABLES).contains(&tables) || bundle.len() < 2 + 4 * tables {
         return Err(9);
     }
-    if n < 1 || n > VARIABLES {
+    if !(1..=VARIABLES).contains(&n) {
         return Err(1);
     }
     Ok((n, tables))

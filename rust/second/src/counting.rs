@@ -75,7 +75,13 @@ fn add_shifted(total: &mut [u64], slice: &[u64], exponent: usize) {
 
 /// At each place the sum of all up to it.
 fn running_sums(parts: &[u64]) -> Vec<u64> {
-    parts.iter().scan(0, |sum, part| { *sum += part; Some(*sum) }).collect()
+    parts
+        .iter()
+        .scan(0, |sum, part| {
+            *sum += part;
+            Some(*sum)
+        })
+        .collect()
 }
 
 /// The first value, the first difference, the second, and so on, at the first value's place.

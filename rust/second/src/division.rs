@@ -67,9 +67,9 @@ pub fn janet_divides(u: &Monomial, marks: u8, q: &Monomial) -> bool {
 pub fn is_complete(n: usize, rows: &[Monomial]) -> bool {
     let marks = all_marks(n, rows);
     let has_divisor = |q: &Monomial| rows.iter().zip(&marks).any(|(u, &m)| janet_divides(u, m, q));
-    rows.iter().zip(&marks).all(|(u, &m)| {
-        (0..n).filter(|place| m >> place & 1 == 0).all(|place| has_divisor(&times(u, place)))
-    })
+    rows.iter()
+        .zip(&marks)
+        .all(|(u, &m)| (0..n).filter(|place| m >> place & 1 == 0).all(|place| has_divisor(&times(u, place))))
 }
 
 /// `u` times the variable at a place.

@@ -3,7 +3,9 @@
 
 use crate::completion::completed;
 use crate::counting;
-use crate::division::{all_marks, divides, find as find_row, is_complete, strictly_ascends, Found, Monomial, VARIABLES};
+use crate::division::{
+    all_marks, divides, find as find_row, is_complete, strictly_ascends, Found, Monomial, VARIABLES,
+};
 use crate::Refusal;
 
 /// The most rows of a table.
@@ -15,10 +17,10 @@ pub const LARGEST_DEGREE: usize = 300;
 
 /// The rows of a table, refused by 1 to 4.
 pub fn checked_rows(n: usize, table: &[u8]) -> Result<Vec<Monomial>, Refusal> {
-    if n < 1 || n > VARIABLES {
+    if !(1..=VARIABLES).contains(&n) {
         return Err(1);
     }
-    if table.len() % n != 0 {
+    if !table.len().is_multiple_of(n) {
         return Err(2);
     }
     if table.len() / n > MOST_ROWS {
@@ -39,23 +41,39 @@ fn monomial(exponents: &[u8]) -> Monomial {
 
 /// The query, refused by 5 when its length is not n.
 fn checked_query(n: usize, query: &[u8]) -> Result<Monomial, Refusal> {
-    if query.len() == n { Ok(monomial(query)) } else { Err(5) }
+    if query.len() == n {
+        Ok(monomial(query))
+    } else {
+        Err(5)
+    }
 }
 
 /// Refused by 6 unless the rows ascend strictly.
 fn check_order(rows: &[Monomial]) -> Result<(), Refusal> {
-    if strictly_ascends(rows) { Ok(()) } else { Err(6) }
+    if strictly_ascends(rows) {
+        Ok(())
+    } else {
+        Err(6)
+    }
 }
 
 /// Refused by 6 unless the rows ascend, by 7 unless they are complete.
 fn check_complete(n: usize, rows: &[Monomial]) -> Result<(), Refusal> {
     check_order(rows)?;
-    if is_complete(n, rows) { Ok(()) } else { Err(7) }
+    if is_complete(n, rows) {
+        Ok(())
+    } else {
+        Err(7)
+    }
 }
 
 /// Refused by 5 when the degree is above 300.
 fn check_degree(s: usize) -> Result<(), Refusal> {
-    if s > LARGEST_DEGREE { Err(5) } else { Ok(()) }
+    if s > LARGEST_DEGREE {
+        Err(5)
+    } else {
+        Ok(())
+    }
 }
 
 /// The marks of each row at the buffer's front.

@@ -2,7 +2,9 @@
 
 use second::completion::completed;
 use second::counting::{count, polynomial, steady};
-use second::division::{all_marks, degree, find, is_complete, is_inside, janet_divides, strictly_ascends, times, Monomial};
+use second::division::{
+    all_marks, degree, find, is_complete, is_inside, janet_divides, strictly_ascends, times, Monomial,
+};
 
 /// A small generator of numbers; the same seed gives the same tables.
 struct Numbers(u64);
@@ -32,18 +34,33 @@ fn random_row(numbers: &mut Numbers, n: usize, largest: u8) -> Monomial {
 fn all_in_box(n: usize, largest: u8) -> Vec<Monomial> {
     let mut all = vec![[0; 6]];
     for place in 0..n {
-        all = all.iter().flat_map(|u| (0..=largest).map(move |e| { let mut v = *u; v[place] = e; v })).collect();
+        all = all
+            .iter()
+            .flat_map(|u| {
+                (0..=largest).map(move |e| {
+                    let mut v = *u;
+                    v[place] = e;
+                    v
+                })
+            })
+            .collect();
     }
     all
 }
 
 /// Rule 5 in its own words, with the outside monomial sought in a box one larger than the rows.
 fn rule_5(n: usize, given: &[Monomial], cells: &[Monomial], largest: u8, u: &Monomial) -> bool {
-    is_inside(given, u) && (0..n).filter(|&place| u[place] > 0).all(|place| cells.iter().any(|v| {
-        let mut raised = *v;
-        raised[place] = largest;
-        v[..place] == u[..place] && v[place] + 1 == u[place] && !is_inside(given, v) && is_inside(given, &raised)
-    }))
+    is_inside(given, u)
+        && (0..n).filter(|&place| u[place] > 0).all(|place| {
+            cells.iter().any(|v| {
+                let mut raised = *v;
+                raised[place] = largest;
+                v[..place] == u[..place]
+                    && v[place] + 1 == u[place]
+                    && !is_inside(given, v)
+                    && is_inside(given, &raised)
+            })
+        })
 }
 
 /// Janet's own way: while a product has no Janet divisor, the products of the least degree that have none are added.
@@ -52,9 +69,10 @@ fn by_products(n: usize, given: &[Monomial]) -> Vec<Monomial> {
     loop {
         let marks = all_marks(n, &rows);
         let open = |q: &Monomial| !rows.iter().zip(&marks).any(|(u, &m)| janet_divides(u, m, q));
-        let products = rows.iter().zip(&marks).flat_map(|(u, &m)| {
-            (0..n).filter(move |place| m >> place & 1 == 0).map(move |place| times(u, place))
-        });
+        let products = rows
+            .iter()
+            .zip(&marks)
+            .flat_map(|(u, &m)| (0..n).filter(move |place| m >> place & 1 == 0).map(move |place| times(u, place)));
         let mut lacking: Vec<Monomial> = products.filter(open).collect();
         let Some(least) = lacking.iter().map(degree).min() else { break };
         lacking.retain(|q| degree(q) == least);

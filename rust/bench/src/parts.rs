@@ -61,20 +61,20 @@ fn one_completion(name: &str, n: usize, table: &[u8]) -> bool {
 pub fn find() {
     head("find, 10,000 queries", &["checked", "descent", "scan"]);
     for n in [3, 4, 6] {
-        for rows in [1024, 2048, 4096] {
-            one_find(&format!("n={n}, random"), n, &ascending(n, rows));
+        for (rows, largest) in [(1024, &[60][..]), (2048, &[60]), (4096, &[60, 255])] {
+            one_find(&format!("n={n}, random"), n, &ascending(n, rows), largest);
         }
     }
     for n in [4, 6] {
-        one_find(&format!("n={n}, completed"), n, &completed_near(n, 4096));
+        one_find(&format!("n={n}, completed"), n, &completed_near(n, 4096), &[60, 255]);
     }
     println!("ours checks the table at each call; so does 'checked', while 'descent' and 'scan' do not");
 }
 
-fn one_find(name: &str, n: usize, table: &[u8]) {
+fn one_find(name: &str, n: usize, table: &[u8], largest: &[usize]) {
     let mut marks = vec![0; table.len() / n];
     baseline::division::ascending_marks(n, table, &mut marks);
-    for most in [60, 255] {
+    for most in largest {
         let queries = Numbers(3).bytes(10_000 * n, most + 1);
         compare_finds(n, table, &marks, &queries);
         let each = |job: &dyn Fn(&[u8])| queries.chunks_exact(n).for_each(|query| job(black_box(query)));

@@ -47,11 +47,10 @@ pub fn powers(n: usize) -> Table {
 pub fn full(random: &mut Random) -> Vec<u8> {
     let n = random.pick(&[1, 3]);
     let rows = (MOST_BYTES - 2 - 4 * MOST_TABLES) / n;
-    let each = rows / MOST_TABLES;
     let largest = random.pick(&[1, 6, 50]);
-    let mut body = |count: usize| (0..count * n).map(|_| random.byte(largest)).collect::<Vec<u8>>();
-    let mut bodies: Vec<Vec<u8>> = (1..MOST_TABLES).map(|_| body(each)).collect();
-    bodies.push(body(rows - each * (MOST_TABLES - 1)));
+    let rows_of = |table: usize| rows / MOST_TABLES + usize::from(table < rows % MOST_TABLES);
+    let mut body = |table: usize| (0..rows_of(table) * n).map(|_| random.byte(largest)).collect::<Vec<u8>>();
+    let bodies: Vec<Vec<u8>> = (0..MOST_TABLES).map(&mut body).collect();
     pack(n, &bodies)
 }
 

@@ -69,6 +69,7 @@ fn fixed(random: &mut Random) -> Vec<Vec<u8>> {
     let powers = bundles::pack(4, &[bundles::powers(4).bytes, vec![1, 2, 3, 4], bundles::powers(4).bytes]);
     let rows = bundles::pack(1, &[vec![7; 4096], vec![3, 9, 1]]);
     let too_many = bundles::pack(1, &[vec![7], vec![7; 4097]]);
+    assert!(full.len() == second::bundle::MOST_BYTES && second::bundle::tables(&full).is_ok());
     let mut all = vec![full, beyond, paper, empty_tables(16), empty_tables(17), powers, rows, too_many];
     all.extend(cut);
     all

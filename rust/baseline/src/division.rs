@@ -39,7 +39,10 @@ pub fn find_by_descent(n: usize, table: &[u8], query: &[u8]) -> (Option<usize>, 
             steps += 1;
             at = end;
         }
-        let Some((start, end)) = chosen else { return (None, steps) };
+        let (start, end) = match chosen {
+            Some(range) => range,
+            None => return (None, steps),
+        };
         if exponent(start) != wanted && end != to {
             return (None, steps);
         }

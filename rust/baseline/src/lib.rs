@@ -8,6 +8,8 @@
 //!
 //! Tables are flat bytes, n a row, and are taken to be valid except where a check is what is measured.
 
+#![warn(missing_docs)]
+
 pub mod bundle;
 pub mod completion;
 pub mod counting;

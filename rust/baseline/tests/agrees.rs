@@ -48,7 +48,10 @@ fn marks_find_and_count_agree() {
     for round in 0..1500 {
         let n = 1 + round % 6;
         let given = table(&mut numbers, n);
-        let Some(full) = expected(n, &given, 400) else { continue };
+        let full = match expected(n, &given, 400) {
+            Some(full) => full,
+            None => continue,
+        };
         let rows = checked_rows(n, &full).expect("valid");
         let mut marks = vec![0; rows.len()];
         division::ascending_marks(n, &full, &mut marks);

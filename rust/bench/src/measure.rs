@@ -1,5 +1,7 @@
 //! Times of several jobs side by side: in each round every job runs, and each job's time is the median of its rounds.
 
+use std::mem::forget;
+use std::ptr;
 use std::time::{Duration, Instant};
 
 /// A round of a quick job lasts about this long: long enough that the clock's own time does not show, short enough that
@@ -50,4 +52,17 @@ fn time(job: &mut Job, runs: u32) -> Duration {
 fn median(mut values: Vec<f64>) -> f64 {
     values.sort_by(f64::total_cmp);
     values[values.len() / 2]
+}
+
+/// The value itself, of which the compiler may presume nothing, so that no work on it is done ahead or left out.
+pub fn hidden<T>(value: T) -> T {
+    // Safety: the value is read once from a place that holds it, and the place gives it up.
+    let same = unsafe { ptr::read_volatile(&value) };
+    forget(value);
+    same
+}
+
+/// Takes a result, so that the job that made it is not left out.
+pub fn keep<T>(result: T) {
+    drop(hidden(result));
 }

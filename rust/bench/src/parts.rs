@@ -1,17 +1,11 @@
 //! The parts of the report. Before a job is timed its results are compared, so that only right programs are measured.
 
-use crate::measure::{side_by_side, Job};
+use crate::measure::{hidden, keep, side_by_side, Job};
 use crate::print::{head, line, time, Limit};
 use crate::tables::{ascending, bundle, completed_near, of_degree, powers, random, Numbers};
-use std::hint::black_box;
 use std::io::Write;
 use std::path::Path;
 use std::process::{Command, Stdio};
-
-/// Takes a result, so that the job that made it is not left out.
-fn keep<T>(result: T) {
-    black_box(result);
-}
 
 /// Completion: the large tables, the same smaller, and small ones.
 pub fn completion() -> bool {
@@ -47,10 +41,10 @@ fn one_completion(name: &str, n: usize, table: &[u8]) -> bool {
     ];
     assert!(counts.iter().all(|count| *count == counts[0]) && ours == naive && packed == naive && slices == naive);
     let mut jobs: Vec<Job> = vec![
-        Box::new(|| keep(rocaplanh::complete(n, black_box(table), ours))),
-        Box::new(|| keep(baseline::completion::complete(n, black_box(table), packed))),
-        Box::new(|| keep(baseline::slices::complete(n, black_box(table), slices))),
-        Box::new(|| keep(second::operations::complete(n, black_box(table), naive))),
+        Box::new(|| keep(rocaplanh::complete(n, hidden(table), ours))),
+        Box::new(|| keep(baseline::completion::complete(n, hidden(table), packed))),
+        Box::new(|| keep(baseline::slices::complete(n, hidden(table), slices))),
+        Box::new(|| keep(second::operations::complete(n, hidden(table), naive))),
     ];
     let times = side_by_side(&mut jobs);
     let sizes = counts[0].map_or("refused".into(), |count| count.to_string());
@@ -77,10 +71,10 @@ fn one_find(name: &str, n: usize, table: &[u8], largest: &[usize]) {
     for most in largest {
         let queries = Numbers(3).bytes(10_000 * n, most + 1);
         compare_finds(n, table, &marks, &queries);
-        let each = |job: &dyn Fn(&[u8])| queries.chunks_exact(n).for_each(|query| job(black_box(query)));
+        let each = |job: &dyn Fn(&[u8])| queries.chunks_exact(n).for_each(|query| job(hidden(query)));
         let ours = |query: &[u8]| keep(rocaplanh::find(n, table, query));
         let checked = |query: &[u8]| {
-            assert!(baseline::counting::is_valid(n, black_box(table)));
+            assert!(baseline::counting::is_valid(n, hidden(table)));
             keep(baseline::division::find_by_descent(n, table, query));
         };
         let descent = |query: &[u8]| keep(baseline::division::find_by_descent(n, table, query));
@@ -156,9 +150,9 @@ fn one_marks(name: &str, n: usize, table: &[u8], limit: Limit) -> bool {
     let mut buffers = [vec![0; table.len() / n], vec![0; table.len() / n], vec![0; table.len() / n]];
     let [ours, plain, naive] = &mut buffers;
     let mut jobs: Vec<Job> = vec![
-        Box::new(|| rocaplanh::marks(n, black_box(table), ours).expect("a sound table")),
-        Box::new(|| baseline::division::ascending_marks(n, black_box(table), plain)),
-        Box::new(|| second::operations::marks(n, black_box(table), naive).expect("a sound table")),
+        Box::new(|| rocaplanh::marks(n, hidden(table), ours).expect("a sound table")),
+        Box::new(|| baseline::division::ascending_marks(n, hidden(table), plain)),
+        Box::new(|| second::operations::marks(n, hidden(table), naive).expect("a sound table")),
     ];
     let times = side_by_side(&mut jobs);
     drop(jobs);
@@ -170,8 +164,8 @@ fn unsorted_marks(name: &str, n: usize, table: &[u8]) -> bool {
     let mut buffers = [vec![0; table.len() / n], vec![0; table.len() / n]];
     let [ours, naive] = &mut buffers;
     let mut jobs: Vec<Job> = vec![
-        Box::new(|| rocaplanh::marks(n, black_box(table), ours).expect("a sound table")),
-        Box::new(|| second::operations::marks(n, black_box(table), naive).expect("a sound table")),
+        Box::new(|| rocaplanh::marks(n, hidden(table), ours).expect("a sound table")),
+        Box::new(|| second::operations::marks(n, hidden(table), naive).expect("a sound table")),
     ];
     let times = side_by_side(&mut jobs);
     drop(jobs);
@@ -189,9 +183,9 @@ pub fn count() -> bool {
             let rows = table.len() / n;
             assert_eq!(rocaplanh::count(n, &table, 300).ok(), baseline::counting::count(n, &table, 300));
             let mut jobs: Vec<Job> = vec![
-                Box::new(|| keep(rocaplanh::count(n, black_box(&table), 300))),
-                Box::new(|| keep(baseline::counting::count(n, black_box(&table), 300))),
-                Box::new(|| keep(second::operations::count(n, black_box(&table), 300))),
+                Box::new(|| keep(rocaplanh::count(n, hidden(&table), 300))),
+                Box::new(|| keep(baseline::counting::count(n, hidden(&table), 300))),
+                Box::new(|| keep(second::operations::count(n, hidden(&table), 300))),
             ];
             let times = side_by_side(&mut jobs);
             kept &= line(&format!("n={n}, {rows} rows, s = 300"), &times, 1, Limit::Times(20.0));
@@ -208,9 +202,9 @@ pub fn open() {
         let ours = rocaplanh::open(&bytes, 15).expect("a sound bundle");
         assert_eq!(Some((ours.n, ours.body)), baseline::bundle::open(&bytes, 15));
         let mut jobs: Vec<Job> = vec![
-            Box::new(|| keep(rocaplanh::open(black_box(&bytes), 15))),
-            Box::new(|| keep(baseline::bundle::open(black_box(&bytes), 15))),
-            Box::new(|| keep(second::bundle::open(black_box(&bytes), 15))),
+            Box::new(|| keep(rocaplanh::open(hidden(&bytes), 15))),
+            Box::new(|| keep(baseline::bundle::open(hidden(&bytes), 15))),
+            Box::new(|| keep(second::bundle::open(hidden(&bytes), 15))),
         ];
         let times = side_by_side(&mut jobs);
         line(&format!("{} bytes", bytes.len()), &times, 1, Limit::None);

@@ -53,7 +53,7 @@ fn run(program: &Path, bundle: &[u8]) -> io::Result<Vec<u8>> {
     let output = child.wait_with_output()?;
     let _ = writer.join();
     if !output.status.success() {
-        return Err(io::Error::other(format!("it ended with {}", output.status)));
+        return Err(io::Error::new(io::ErrorKind::Other, format!("it ended with {}", output.status)));
     }
     Ok(output.stdout)
 }

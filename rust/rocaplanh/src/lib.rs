@@ -7,6 +7,8 @@
 //! - `completed`: `complete` into a vector of its own.
 //! - `Refusal`: why there is no answer. `declarations`: the C functions themselves.
 
+#![warn(missing_docs)]
+
 use std::fmt;
 
 pub mod declarations;

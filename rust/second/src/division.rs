@@ -109,8 +109,11 @@ fn descend(n: usize, rows: &[Monomial], q: &Monomial) -> (Option<usize>, usize) 
         let exponents: BTreeSet<u8> = group.iter().map(|&row| rows[row][place]).collect();
         let stepped: Vec<u8> = exponents.iter().copied().filter(|&e| e <= q[place]).collect();
         steps += stepped.len();
-        let Some(&last) = stepped.last() else { return (None, steps) };
-        if last != q[place] && Some(&last) != exponents.last() {
+        let last = match stepped.last() {
+            Some(&last) => last,
+            None => return (None, steps),
+        };
+        if last != q[place] && Some(&last) != exponents.iter().next_back() {
             return (None, steps);
         }
         group.retain(|&row| rows[row][place] == last);

@@ -10,6 +10,8 @@
 //!
 //! Places count from 0 in this crate: place 0 is the paper's variable 1. Row numbers count from 0.
 
+#![warn(missing_docs)]
+
 pub mod bundle;
 pub mod completion;
 pub mod counting;

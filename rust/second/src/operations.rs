@@ -20,7 +20,7 @@ pub fn checked_rows(n: usize, table: &[u8]) -> Result<Vec<Monomial>, Refusal> {
     if !(1..=VARIABLES).contains(&n) {
         return Err(1);
     }
-    if !table.len().is_multiple_of(n) {
+    if table.len() % n != 0 {
         return Err(2);
     }
     if table.len() / n > MOST_ROWS {

@@ -74,7 +74,10 @@ fn by_products(n: usize, given: &[Monomial]) -> Vec<Monomial> {
             .zip(&marks)
             .flat_map(|(u, &m)| (0..n).filter(move |place| m >> place & 1 == 0).map(move |place| times(u, place)));
         let mut lacking: Vec<Monomial> = products.filter(open).collect();
-        let Some(least) = lacking.iter().map(degree).min() else { break };
+        let least = match lacking.iter().map(degree).min() {
+            Some(least) => least,
+            None => break,
+        };
         lacking.retain(|q| degree(q) == least);
         rows.extend(lacking);
         rows.sort();

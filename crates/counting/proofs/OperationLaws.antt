@@ -111,9 +111,10 @@ module _ (n : ℕ) (table : List ℕ) where
   -- what passes 6 and 7
   order-checked : refusal (orderChecks n table) ≡ 0 → Ascending (rows n table) × Complete n (rows n table)
   order-checked e =
-      let a = accepted (orderChecks n table) e in
-      (by-cases (decide (tests-ascending (rows n table))) (λ h. h) (λ f. absurd (a (check 6 (lit< tt) (tests-notAscending n table)) (List·Memᴰ·head refl) f)),
-      by-cases (decide (tests-complete n (rows n table))) (λ h. h) (λ f. absurd (a (check 7 (lit< tt) (tests-notComplete n table)) (List·Memᴰ·tail (List·Memᴰ·head refl)) f)))
+      let a = accepted (orderChecks n table) e in (
+        by-cases (decide (tests-ascending (rows n table))) (λ h. h) (λ f. absurd (a (check 6 (lit< tt) (tests-notAscending n table)) (List·Memᴰ·head refl) f)),
+        by-cases (decide (tests-complete n (rows n table))) (λ h. h) (λ f. absurd (a (check 7 (lit< tt) (tests-notComplete n table)) (List·Memᴰ·tail (List·Memᴰ·head refl)) f)),
+      )
 
 -- where a list in two parts does not refuse, its first part does not
 first-passes : (earlier checks : List Check) → refusal (earlier ++ checks) ≡ 0 → refusal earlier ≡ 0

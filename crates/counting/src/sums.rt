@@ -1,7 +1,9 @@
 // The sums over the rows of a checked table, without the checks: a caller that wants many degrees of one table checks once.
 use binomial::choose;
-use terms::{degree_of, row_at, Degree, RowNumber};
-
+use terms::Degree;
+use terms::RowNumber;
+use terms::degree_of;
+use terms::row_at;
 ghost use mathlib.Core.Path.{_≡_};
 ghost use Prim.Native.Nat.{ℕ, _+_, _≤_, _<_};
 ghost use lib.ListN.{length};
@@ -71,13 +73,22 @@ fn signed_share(s: Degree, d: Degree, m: usize) -> SignedShare
     let most = s.0;
     let own = d.0;
     if own <= most + m {
-        return SignedShare { plus: choose(most + m - own, m), minus: 0 };
+        return SignedShare {
+            plus: choose(most + m - own, m),
+            minus: 0,
+        };
     }
     let size = choose(own - most - 1, m);
     if m % 2 == 1 {
-        return SignedShare { plus: 0, minus: size };
+        return SignedShare {
+            plus: 0,
+            minus: size,
+        };
     }
-    SignedShare { plus: size, minus: 0 }
+    SignedShare {
+        plus: size,
+        minus: 0,
+    }
 }
 
 // The shares of all rows, no row left out.

@@ -3,30 +3,30 @@
 --   settled       a number that is the refusal of a list of checks settles the list
 --   demand-one, demand-two, demand-three
 use mathlib.Core.Path.{_≡_, refl, sym, ap, _∙_, subst}
-use mathlib.Core.List.{List, [], _∷_, _++_, List·Memᴰ, List·Memᴰ·head, List·Memᴰ·tail, Memᴰ·append-left}
+use mathlib.Core.List.{List, [], _∷_, _++_, List·Memᴰ·head, List·Memᴰ·tail, Memᴰ·append-left}
 use mathlib.Core.Logic.{by-cases, _↔_}
 use Prim.Native.Nat.{ℕ, _+_, _*_, _/_, _≤_, _<_}
 use native.Mathlib.Nat.{le-trans, min-le-left}
-use native.Mathlib.Decide.{decLe, decLt}
+use native.Mathlib.Decide.{decLt}
 use native.Mathlib.Omega.{arith}
 use lib.Dec.{lit<}
 use lib.ListN.{length, take, drop}
 use lib.Seq.{take-at}
-use Rattle.terms.specs.Monomials.{Monomial, Table, _!_, _∈_, OfSize, degree}
+use Rattle.terms.specs.Monomials.{Monomial, Table, _!_, degree}
 use Rattle.terms.specs.Order.{Ascending}
 use Rattle.terms.specs.Tests.{tests-lt}
 use Rattle.terms.specs.Rows.{rows, firstRows, flat}
 use Rattle.terms.specs.Refusals.{Check, Accepts, Refuses, refusal, check, tableChecks}
-use Rattle.terms.proofs.RowsLaws.{rows-size, rows-flat, length-flat, member-at, member-index}
-use Rattle.terms.proofs.RefusalLaws.{TableAccepted, table-accepted, accepted, accepts-nil, accepts-cons, accepts-refusal, refusal-refuses, refuses-refusal, refusal-append}
+use Rattle.terms.proofs.RowsLaws.{rows-size, rows-flat, length-flat}
+use Rattle.terms.proofs.RefusalLaws.{TableAccepted, table-accepted, accepted, accepts-nil, accepts-cons, accepts-refusal, refusal-refuses, refuses-refusal}
 use Rattle.division.specs.Janet.{Multiplicative, Complete}
 use Rattle.division.specs.Operations.{FindPromise, findChecks, findNumber, findRow, findSteps}
 use Rattle.division.proofs.FindLaws.{find-finds, find-steps, find-ready}
-use Rattle.completion.specs.Completed.{CompletedTable, completed, largest}
+use Rattle.completion.specs.Completed.{CompletedTable}
 use Rattle.completion.specs.Operation.{CompletePromise, completeChecks, completeNumber, completeRows, completedOf, roomFor}
 use Rattle.completion.specs.declared.CompleteAnswer.{CompleteAnswer}
 use Rattle.completion.specs.declared.CompleteAnswer.the-variants.{Rows, Refused}
-use Rattle.completion.proofs.CompletedLaws.{completed-table, completed-unique, completed-within}
+use Rattle.completion.proofs.CompletedLaws.{completed-table, completed-unique}
 use Rattle.completion.proofs.CompletionLaws.{completion-ideal, completion-complete, completion-one, completion-none, completion-size}
 use Rattle.completion.proofs.OperationLaws.{complete-unique, complete-accepts, complete-refuses, complete-count, complete-rows, complete-behind, complete-kept, room-enough, no-room, accepted-room}
 use Rattle.counting.specs.Counts.{countAt}
@@ -98,10 +98,9 @@ room-decides : (n : ℕ) (table buffer : List ℕ) (answer : CompleteAnswer) (af
     → Accepts (tableChecks n table) → (H : Table) → CompletedTable n (rows n table) H → (completeNumber answer ≡ 8) ↔ (roomFor n (length buffer) < length H)
 room-decides n table buffer answer after p a H is =
     let same : completedOf n table ≡ H = completed-unique (completed-table n (rows n table) (rows-size n table)) is in
-    let size = ap length same in
-    (
+    let size = ap length same in (
       λ e. by-cases (decLt (roomFor n (length buffer)) (length H)) (λ l. l) (λ g.
-      absurd (omega (arith, p .number, room-enough n table (length buffer) a (omega arith)))),
+          absurd (omega (arith, p .number, room-enough n table (length buffer) a (omega arith)))),
       λ l. p .number ∙ no-room n table (length buffer) a (omega arith),
     )
 
@@ -155,22 +154,20 @@ module _ (n : ℕ) (table buffer : List ℕ) (k : ℕ) (after : List ℕ) (p : C
 
   count-answers : (s : ℕ) → s ≤ 300 → (answer : CountAnswer) → CountPromise n (flat H) s answer → (countNumber answer ≡ 0) × (countValue answer ≡ countAt n (rows n table) s)
   count-answers s l answer c =
-      let z : refusal (countChecks n (flat H) s) ≡ 0 = accepts-refusal (countChecks n (flat H) s) (counted s l) in
-      (
+      let z : refusal (countChecks n (flat H) s) ≡ 0 = accepts-refusal (countChecks n (flat H) s) (counted s l) in (
         c .number ∙ z,
         ap countValue (c .value z) ∙ ap (λ (G : Table). countAt n G s) (rows-flat n H (given .some) (completion-size is))
-        ∙ sym (count-ideal n (rows n table) H (completion-ideal n (rows n table) (rows-size n table) is) s),
+            ∙ sym (count-ideal n (rows n table) H (completion-ideal n (rows n table) (rows-size n table) is) s),
       )
 
 descent-scans : (n : ℕ) (table query : List ℕ) (answer : FindAnswer) → FindPromise n table query answer → findNumber answer ≡ 0
     → (findRow answer ≡ scan (rows n table) query) × (findSteps answer ≤ degree query + n)
 descent-scans n table query answer p e =
     let z : refusal (findChecks n table query) ≡ 0 = sym (p .number) ∙ e in
-    let G : Table = rows n table in
-    (
+    let G : Table = rows n table in (
       answers-unique (janet-disjoint (rows-size n table) (ascending-distinct G (find-ready n table query z .ascends))) query (findRow answer) (scan G query)
-      (find-finds n table query answer p z)
-      (answers-first Multiplicative G query (scan G query) (scan-finds G query)),
+          (find-finds n table query answer p z)
+          (answers-first Multiplicative G query (scan G query) (scan-finds G query)),
       find-steps n table query answer p z,
     )
 

@@ -4,32 +4,28 @@
 --   flat-accepted     a table within the limits passes the checks 1 to 4 as bytes
 --   completed-below   no exponent of a completed row is above what all given ones stay below
 --   rows-below        nor one of a row above what all bytes stay below
-use mathlib.Core.Path.{_≡_, refl, sym, ap, _∙_, subst}
+use mathlib.Core.Path.{_≡_, refl, sym, ap, _∙_}
 use mathlib.Core.Bool.{Bool, not}
-use mathlib.Core.List.{List, [], _∷_, _++_, List·Memᴰ, List·Memᴰ·head, List·Memᴰ·tail, List·Memᴰ·cases-cons, List·Memᴰ·not-nil, List·Memᴰ·append-cases}
-use mathlib.Core.Logic.{_⊎_, inl, inr, ⊎-elim, by-cases}
+use mathlib.Core.List.{List, [], _∷_, List·Memᴰ, List·Memᴰ·head, List·Memᴰ·tail, List·Memᴰ·not-nil, List·Memᴰ·append-cases}
+use mathlib.Core.Logic.{⊎-elim, by-cases}
 use Prim.Native.Nat.{ℕ, zero, suc, _+_, _*_, _≤_, _<_}
 use native.Mathlib.Nat.{le-trans, max-le}
 use native.Mathlib.Decide.{decLt}
 use native.Mathlib.Omega.{arith}
 use lib.Dec.{lit<}
-use lib.ListN.{length, take, drop, getD, replicate}
-use lib.Seq.{take-at}
-use Rattle.terms.specs.Tests.{Tests, keep, tests-same, tests-as}
+use lib.ListN.{length, getD, replicate}
+use Rattle.terms.specs.Tests.{tests-same, tests-as}
 use Rattle.terms.specs.Monomials.{Monomial, Table, _!_, _∈_, OfSize}
-use Rattle.terms.specs.Ideal.{Inside, SameIdeal, insideTest}
-use Rattle.terms.specs.Order.{Ascending}
-use Rattle.terms.specs.Rows.{rows, firstRows, flat}
-use Rattle.terms.specs.Refusals.{Check, Accepts, refusal, check, tableChecks, tests-notOneToSix, tests-noMultiple, tests-tooManyRows, tests-entryAbove50}
+use Rattle.terms.specs.Ideal.{SameIdeal, insideTest}
+use Rattle.terms.specs.Rows.{rows, flat}
+use Rattle.terms.specs.Refusals.{Accepts, check, tableChecks, tests-notOneToSix, tests-noMultiple, tests-tooManyRows, tests-entryAbove50}
 use Rattle.terms.proofs.IdealLaws.{tests-inside}
 use Rattle.terms.proofs.RowsLaws.{rows-flat, length-flat, rows-size, row-within, entry-at, member-at, member-index}
-use Rattle.terms.proofs.RefusalLaws.{accepts-nil, accepts-cons, accepts-refusal, refusal-append}
-use Rattle.division.specs.Janet.{Complete}
+use Rattle.terms.proofs.RefusalLaws.{accepts-nil, accepts-cons}
 use Rattle.terms.proofs.MonomialLaws.{beyond}
 use Rattle.completion.specs.Completed.{Completed, joined, largest}
 use Rattle.completion.proofs.CompletedLaws.{completed-within}
 use Rattle.counting.specs.Counts.{countAt, monomialsUpTo}
-use Rattle.counting.specs.Operations.{countChecks}
 use Rattle.counting.proofs.SumLaws.{bit, length-keep, sum-same}
 use Rattle.counting.proofs.CountLaws.{upTo-only}
 

@@ -124,11 +124,12 @@ loop-again c =
     let before = c .before .before .before .before .before .before .loop in
     let one = c .before .before .signed-share .result in
     let e : pos (one .plus) -ℤ pos (one .minus) ≡ signedShare s (degree (rowAt (rows n t) k)) (ones (getD marks k 0)) = c .before .before .signed-share .ensures .difference ∙ ap (λ (d : ℕ). signedShare s d (ones (getD marks k 0))) (c .before .before .before .row-degree .ensures) in
-    let f = signed-next s (rows n t) marks k l (omega (arith, start .pre .marked)) in
-    (omega arith,
-    splits-add (before .plus) (before .minus) (one .plus) (one .minus) _ _ _ (rw f at (before .inv .1)) e,
-    omega (arith, c .before .before .signed-share .ensures .plus-small),
-    omega (arith, c .before .before .signed-share .ensures .minus-small))
+    let f = signed-next s (rows n t) marks k l (omega (arith, start .pre .marked)) in (
+      omega arith,
+      splits-add (before .plus) (before .minus) (one .plus) (one .minus) _ _ _ (rw f at (before .inv .1)) e,
+      omega (arith, c .before .before .signed-share .ensures .plus-small),
+      omega (arith, c .before .before .signed-share .ensures .minus-small),
+    )
 
 -- src/sums.rt:83:1
 returns : tie.Need-returns Inv-loop μ-loop

@@ -58,9 +58,12 @@ covered-requires c κs =
     let G = rows (a .n) (a .table .now) in
     let u = rowAt G (a .k .0) in
     let l = c .before .before .loop in
-    let r = c .before .before .before .row-at in
-    (s .pre .0, omega arith, omega arith,
-    omega (arith, read-exponent (a .n) (a .table .now) (a .k .0) (s .pre .2) (r .result) (r .ensures) (l .i + 1), s .pre .1 (a .k .0) (s .pre .2) (l .i + 1)))
+    let r = c .before .before .before .row-at in (
+      s .pre .0,
+      omega arith,
+      omega arith,
+      omega (arith, read-exponent (a .n) (a .table .now) (a .k .0) (s .pre .2) (r .result) (r .ensures) (l .i + 1), s .pre .1 (a .k .0) (s .pre .2) (l .i + 1)),
+    )
 
 -- src/completeness.rt:41:17
 returns : tie.Need-returns Inv-loop μ-loop
@@ -96,14 +99,16 @@ loop-again c =
     let l = c .before .before .loop in
     let r = c .before .before .before .row-at in
     let w = read-row (a .n) (a .table .now) (a .k .0) (s .pre .2) (r .result) (r .ensures) in
-    let i : l .i < a .n = omega arith in
-    (omega arith, rw w (each-goes-on (l .i) (variableTest G u) (rw w at (l .inv .1)) (⊎-elim
-    (λ x.
-    let z : marksOf (a .n) G u / 2 ^ l .i % 2 ≡ 0 = rw (s .pre .3) at (x .0 .taken) in
-    let e : x .1 .result ≡ coveredTest G (times u (suc (l .i)) 1) = rw (w, add-one) at (x .1 .ensures) in
-    unmarked-variable (a .n) G u (l .i) i z ∙ sym e ∙ not-false _ (x .2 .left))
-    (λ x. marked-variable (a .n) G u (l .i) i (λ z. x .left (rw (s .pre .3) z)))
-    (c .if1 .came))))
+    let i : l .i < a .n = omega arith in (
+      omega arith,
+      rw w (each-goes-on (l .i) (variableTest G u) (rw w at (l .inv .1)) (⊎-elim
+          (λ x.
+          let z : marksOf (a .n) G u / 2 ^ l .i % 2 ≡ 0 = rw (s .pre .3) at (x .0 .taken) in
+          let e : x .1 .result ≡ coveredTest G (times u (suc (l .i)) 1) = rw (w, add-one) at (x .1 .ensures) in
+          unmarked-variable (a .n) G u (l .i) i z ∙ sym e ∙ not-false _ (x .2 .left))
+          (λ x. marked-variable (a .n) G u (l .i) i (λ z. x .left (rw (s .pre .3) z)))
+          (c .if1 .came))),
+    )
 
 -- src/completeness.rt:32:1
 returns-2 : tie.Need-returns-2 Inv-loop μ-loop

@@ -109,9 +109,11 @@ loop-again c =
     let a = s .args in
     let G = rows (a .n) (a .table .now) in
     let l = c .before .before .before .before .loop in
-    let back : suc (l .k - 1) ≡ l .k = omega arith in
-    (omega (arith, l .inv .0), c .before .before .marks-before .ensures,
-    next-complete (a .n) G (l .k - 1) (omega (arith, l .inv .0)) (sym (c .before .row-complete .ensures) ∙ not-false _ (c .if2 .left)) (rw back (l .inv .2)))
+    let back : suc (l .k - 1) ≡ l .k = omega arith in (
+      omega (arith, l .inv .0),
+      c .before .before .marks-before .ensures,
+      next-complete (a .n) G (l .k - 1) (omega (arith, l .inv .0)) (sym (c .before .row-complete .ensures) ∙ not-false _ (c .if2 .left)) (rw back (l .inv .2)),
+    )
 
 -- src/completeness.rt:50:1
 returns-3 : tie.Need-returns-3 Inv-loop μ-loop

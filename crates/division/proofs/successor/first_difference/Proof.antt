@@ -73,9 +73,12 @@ loop-again c =
     let a = s .args in
     let G = rows (a .n) (a .table .now) in
     let l = c .before .before .before .before .loop in
-    let f : c .before .exponent2 .result ≡ rowAt G (suc (a .k .0)) ! l .i = rw (add-one (a .k .0)) at (c .before .exponent2 .ensures) in
-    (omega arith, omega arith, rw (add-one (l .i)) (before-suc (l .i) (rowAt G (a .k .0)) (rowAt G (suc (a .k .0))) (l .inv .2)
-    (sym (c .before .before .exponent .ensures) ∙ c .if1 .left ∙ f)))
+    let f : c .before .exponent2 .result ≡ rowAt G (suc (a .k .0)) ! l .i = rw (add-one (a .k .0)) at (c .before .exponent2 .ensures) in (
+      omega arith,
+      omega arith,
+      rw (add-one (l .i)) (before-suc (l .i) (rowAt G (a .k .0)) (rowAt G (suc (a .k .0))) (l .inv .2)
+          (sym (c .before .before .exponent .ensures) ∙ c .if1 .left ∙ f)),
+    )
 
 -- src/successor.rt:21:1
 returns-2 : tie.Need-returns-2 Inv-loop μ-loop

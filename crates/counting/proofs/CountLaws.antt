@@ -8,33 +8,35 @@
 --   count-formula    with the count they make C(n + s, n)
 --   count-zeros      with a row of zeros every count is 0
 use mathlib.Core.Path.{_≡_, refl, sym, ap, ap₂, _∙_, subst}
-use mathlib.Core.Bool.{Bool, true, false, not, _&&_}
-use mathlib.Core.List.{List, [], _∷_, _++_, map, List·Memᴰ, List·Memᴰ·cases-cons, List·Memᴰ·not-nil, List·Memᴰ·append-cases, List·Memᴰ·eq-of-singleton, Memᴰ·of-map}
-use mathlib.Core.Logic.{_⊎_, inl, inr, ⊎-elim, by-cases}
+use mathlib.Core.Bool.{Bool, true, false, not}
+use mathlib.Core.List.{List, [], _∷_, map, List·Memᴰ, List·Memᴰ·append-cases, List·Memᴰ·eq-of-singleton, Memᴰ·of-map}
+use mathlib.Core.Logic.{⊎-elim, by-cases}
 use Prim.Native.Nat.{ℕ, zero, suc, _+_, _-_, _≤_, _<_}
-use native.Mathlib.Nat.{not-suc-le-zero, le-of-suc-le-suc, suc-inj, add-comm}
+use native.Mathlib.Nat.{not-suc-le-zero, le-of-suc-le-suc, add-comm}
 use native.Mathlib.Decide.{decLt}
 use native.Mathlib.Omega.{arith}
-use lib.Dec.{T, eqb}
-use lib.ListN.{length, getD}
-use lib.Seq.{ext-getD}
+use lib.Dec.{T}
+use lib.ListN.{length}
 use Rattle.binomial.specs.Choose.{choose}
 use Rattle.binomial.proofs.ChooseLaws.{choose-none}
-use Rattle.terms.specs.Tests.{Tests, pick, any, keep, keep-in, tests-as, tests-and, tests-eq, tests-same, tests-any}
+use Rattle.terms.specs.Tests.{Tests, any, keep, tests-as, tests-and, tests-eq, tests-same, tests-any}
 use Rattle.terms.specs.Monomials.{Monomial, Table, _!_, _∈_, rowAt, OfSize, degree}
-use Rattle.terms.specs.Ideal.{Divides, Inside, insideTest}
+use Rattle.terms.specs.Ideal.{Inside, insideTest}
 use Rattle.terms.proofs.MonomialLaws.{within, positive, same-all}
 use Rattle.terms.proofs.IdealLaws.{tests-inside, inside-zeros}
 use Rattle.terms.proofs.RowsLaws.{member-at}
-use Rattle.division.proofs.Facade.{Marking, Cone, DivisorAt, Disjoint, Covers, marksCount}
+use Rattle.division.proofs.Facade.{Marking, Cone, Disjoint, Covers, marksCount}
 use Rattle.counting.specs.Counts.{sum, raised, extended, monomialsUpTo, sameTest, occurrences, countAt, share}
-use Rattle.counting.proofs.SumLaws.{bit, bit-false, bit-not, sum-append, sum-add, sum-zero, sum-same, sum-map, sum-swap, length-keep, keep-or-not, one-at-most}
-use Rattle.counting.proofs.ShareLaws.{size, share-size, share-inside, size-pascal, size-first, coneTest, markAt, weight, tests-cone, cone-count, listed, length-listed, listed-at, weight-listed}
+use Rattle.counting.proofs.SumLaws.{bit, bit-false, sum-append, sum-zero, sum-same, sum-map, sum-swap, length-keep, keep-or-not, one-at-most}
+use Rattle.counting.proofs.ShareLaws.{size, share-size, share-inside, size-pascal, size-first, coneTest, markAt}
+use Rattle.counting.proofs.ShareLaws.{weight, tests-cone, cone-count, listed, length-listed, listed-at, weight-listed}
 
 -- ---- what the list of monomials holds
 
 -- what `extended` makes of monomials with a property P at each degree
-extended-all : (f : ℕ → List Monomial) (P Q : ℕ → Monomial → Type 0) → ((s : ℕ) (w : Monomial) → P s w → Q s (0 ∷ w)) → ((s : ℕ) (w : Monomial) → Q s w → Q (suc s) (raised w)) → ((s : ℕ) (q : Monomial) → List·Memᴰ q (f s) → P s q) → (s : ℕ) (q : Monomial) → List·Memᴰ q (extended f s) → Q s q
+extended-all : (f : ℕ → List Monomial) (P Q : ℕ → Monomial → Type 0) → ((s : ℕ) (w : Monomial) → P s w → Q s (0 ∷ w))
+    → ((s : ℕ) (w : Monomial) → Q s w → Q (suc s) (raised w)) → ((s : ℕ) (q : Monomial) → List·Memᴰ q (f s) → P s q) → (s : ℕ) (q : Monomial)
+    → List·Memᴰ q (extended f s) → Q s q
 unfolding extended
 extended-all f P Q put up h zero q m =
     let r = Memᴰ·of-map (λ (w : Monomial). 0 ∷ w) (f zero) m in

@@ -5,7 +5,7 @@
 --   table-first, table-passed      the checks 1 to 4 refuse, or they pass and the others decide
 --   late-5, late-passed, order-6, order-7, order-0   the checks 5, 6 and 7
 --   count-checked, steady-checked  what is known of a table that no check refuses
-use mathlib.Core.Path.{_≡_, refl, sym, ap, _∙_, subst}
+use mathlib.Core.Path.{_≡_, refl, sym, ap, _∙_}
 use mathlib.Core.List.{List, [], _∷_, _++_, List·Memᴰ·head, List·Memᴰ·tail}
 use mathlib.Core.Logic.{by-cases}
 use Prim.Native.Nat.{ℕ, zero, suc, _≤_, _<_}
@@ -18,11 +18,12 @@ use Rattle.terms.specs.Order.{Ascending}
 use Rattle.terms.specs.Rows.{rows}
 use Rattle.terms.specs.Refusals.{Check, refusal, check, tableChecks}
 use Rattle.terms.proofs.OrderLaws.{tests-ascending}
-use Rattle.terms.proofs.RefusalLaws.{accepted, refusal-append, refusal-first, refusal-holds, refusal-passes, accepts-refusal, table-accepted}
+use Rattle.terms.proofs.RefusalLaws.{accepted, refusal-append, refusal-first, refusal-holds, refusal-passes, table-accepted}
 use Rattle.division.proofs.Facade.{Complete, tests-complete}
 use Rattle.counting.specs.Counts.{countAt, polynomialAt, steadyOf}
 use Rattle.counting.specs.Sums.{Checked}
-use Rattle.counting.specs.Operations.{orderChecks, countChecks, steadyChecks, CountPromise, countNumber, PolynomialPromise, polynomialNumber, SteadyPromise, steadyNumber, tests-notAscending, tests-notComplete}
+use Rattle.counting.specs.Operations.{orderChecks, countChecks, steadyChecks, CountPromise, countNumber, PolynomialPromise}
+use Rattle.counting.specs.Operations.{polynomialNumber, SteadyPromise, steadyNumber, tests-notAscending, tests-notComplete}
 use Rattle.counting.specs.declared.CountAnswer.{CountAnswer}
 use Rattle.counting.specs.declared.CountAnswer.the-variants as count
 use Rattle.counting.specs.declared.PolynomialAnswer.{PolynomialAnswer}

@@ -1,6 +1,6 @@
 -- `counting::checks::count_refusal` meets its contract: the checks 1 to 4 refuse, or they pass and 5 decides, or that passes and 6 and 7 do.
 use borrow.Author.Needs.{needs}
-use mathlib.Core.Path.{_≡_, sym, _∙_}
+use mathlib.Core.Path.{sym, _∙_}
 use mathlib.Core.List.{_∷_}
 use native.Mathlib.Omega.{arith}
 use Rattle.terms.specs.Refusals.{tableChecks}

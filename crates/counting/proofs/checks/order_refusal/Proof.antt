@@ -1,7 +1,7 @@
 -- `counting::checks::order_refusal` meets its contract: the tests are those of the checks 6 and 7, in this order.
 use borrow.Author.Needs.{needs}
 use borrow.Author.Tests.{not-true, not-false}
-use mathlib.Core.Path.{_≡_, sym, _∙_}
+use mathlib.Core.Path.{sym, _∙_}
 use Rattle.terms.specs.Order.{Ascending}
 use Rattle.terms.specs.Rows.{rows}
 use Rattle.terms.specs.Tests.{true-tests, false-tests}

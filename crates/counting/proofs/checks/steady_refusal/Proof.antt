@@ -1,6 +1,6 @@
 -- `counting::checks::steady_refusal` meets its contract: the checks 1 to 4 refuse, or they pass and 6 and 7 decide.
 use borrow.Author.Needs.{needs}
-use mathlib.Core.Path.{_≡_, sym, _∙_}
+use mathlib.Core.Path.{sym, _∙_}
 use Rattle.terms.specs.Refusals.{tableChecks}
 use Rattle.terms.proofs.RefusalLaws.{accepted, table-accepted}
 use Rattle.counting.specs.Operations.{orderChecks}

@@ -1,27 +1,21 @@
-use Rattle.terms.specs.Monomials.{Table, rowAt, degree}
+-- `counting::sums::signed_shares` meets its contract. The invariant: what counts for the shares so far less what counts against them, and the
+-- shares of the rows from k on, make the whole; neither part exceeds k times the largest binomial.
+use Rattle.terms.specs.Monomials.{rowAt, degree}
 use Rattle.terms.specs.Rows.{rows}
 use Rattle.terms.proofs.RowsLaws.{length-rows}
-use Rattle.counting.specs.Counts.{share, signedShare, steadyOf}
-use Rattle.counting.specs.Sums.{sharesOf, signedSharesOf, Summable, Splits}
+use Rattle.counting.specs.Counts.{signedShare}
+use Rattle.counting.specs.Sums.{signedSharesOf}
 use lib.Count.{ones}
-use lib.IntN.{ℤ, pos, _+ℤ_, _-ℤ_, +ℤ-idl, +ℤ-idr}
+use lib.IntN.{pos, _+ℤ_, _-ℤ_, +ℤ-idl, +ℤ-idr}
 use Rattle.counting.proofs.PassLaws.{marks-few, degree-small, signed-next, signed-done, splits-add}
 use borrow.Author.Needs.{needs}
 use native.Mathlib.Omega.{arith}
-use borrow.Author.Tests.{le-ltb, lt-ltb, le-leb, lt-leb, eq-eqb, ne-eqb, ltb-true, ltb-false, leb-true, leb-false, eqb-true, eqb-false}
-use mathlib.Core.Path.{_≡_, refl, sym, ap, _∙_}
-use mathlib.Core.Logic.{⊎-elim}
-use mathlib.Core.List.{List, [], _∷_, _++_}
-use mathlib.Core.Bool.{Bool, true, false}
-use Prim.Native.Nat.{ℕ, zero, suc, _+_, _*_, _-_, _/_, _%_, _≤_, _<_}
-use lib.ListN.{length, take, drop, getD, set, replicate}
+use mathlib.Core.Path.{_≡_, sym, ap, _∙_}
+use Prim.Native.Nat.{ℕ, _*_, _-_, _≤_, _<_}
+use lib.ListN.{length, drop, getD}
 use denote.Ref.{now}
 use Rattle.counting.proofs.sums.signed_shares.Statement.{statement}
 use Rattle.counting.proofs.sums.signed_shares.Tie as tie
-use Rattle.counting.proofs.sums.signed_shares.Reads as reads
-use Rattle.counting.proofs.sums.signed_shares.Lts as lts
-use Rattle.counting.proofs.sums.row_degree.Reads as row-degree-reads
-use Rattle.counting.proofs.sums.signed_share.Reads as signed-share-reads
 
 abbrev Inv-loop : tie.InvT-loop
 Inv-loop n table marks s count plus₀ minus₀ k₀ plus minus k = (k ≤ count) × ((pos plus -ℤ pos minus) +ℤ signedSharesOf (s .0) (drop k (rows n table)) (drop k marks) ≡ signedSharesOf (s .0) (rows n table) marks) × (plus ≤ k * 1085371516236) × (minus ≤ k * 1085371516236)
@@ -29,15 +23,12 @@ Inv-loop n table marks s count plus₀ minus₀ k₀ plus minus k = (k ≤ count
 abbrev μ-loop : tie.MeasureT-loop
 μ-loop n table marks s count plus₀ minus₀ k₀ plus minus k = count - k
 
--- src/sums.rt:87:17
 div-count : tie.Need-div-count Inv-loop μ-loop
 div-count c = search needs
 
--- src/sums.rt:91:5
 loop-holds : tie.Need-loop-holds Inv-loop μ-loop
 loop-holds c = (omega arith, +ℤ-idl _, omega arith, omega arith)
 
--- src/sums.rt:92:32
 shared-slice-read-m : tie.Need-shared-slice-read-m Inv-loop μ-loop
 shared-slice-read-m c =
     let start = c .before .before .before .before .before in
@@ -47,7 +38,6 @@ shared-slice-read-m c =
     let l : k < length (rows n t) = omega (arith, length-rows n t) in
     omega (arith, start .pre .marked)
 
--- src/sums.rt:92:17
 cast-m : tie.Need-cast-m Inv-loop μ-loop
 cast-m c =
     let start = c .before .before .before .before .before in
@@ -57,7 +47,6 @@ cast-m c =
     let l : k < length (rows n t) = omega (arith, length-rows n t) in
     omega (arith, marks-few _ (start .pre .few k l))
 
--- src/sums.rt:93:35
 row-degree-requires : tie.Need-row-degree-requires Inv-loop μ-loop
 row-degree-requires c κs =
     let start = c .before .before .before .before .before in
@@ -67,7 +56,6 @@ row-degree-requires c κs =
     let l : k < length (rows n t) = omega (arith, length-rows n t) in
     (start .pre .accepted .few, l)
 
--- src/sums.rt:93:13
 signed-share-requires : tie.Need-signed-share-requires Inv-loop μ-loop
 signed-share-requires c κs =
     let start = c .before .before .before .before .before .before in
@@ -77,7 +65,6 @@ signed-share-requires c κs =
     let l : k < length (rows n t) = omega (arith, length-rows n t) in
     (start .pre .low, omega (arith, c .row-degree .ensures, degree-small n t (start .pre .accepted) k l), marks-few _ (start .pre .few k l))
 
--- src/sums.rt:94:9
 add-plus : tie.Need-add-plus Inv-loop μ-loop
 add-plus c =
     let start = c .before .before .before .before .before .before .before .before in
@@ -87,7 +74,6 @@ add-plus c =
     let l : k < length (rows n t) = omega (arith, length-rows n t) in
     omega (arith, c .before .signed-share .ensures .plus-small, start .pre .accepted .limited)
 
--- src/sums.rt:95:9
 add-minus : tie.Need-add-minus Inv-loop μ-loop
 add-minus c =
     let start = c .before .before .before .before .before .before .before .before .before in
@@ -97,7 +83,6 @@ add-minus c =
     let l : k < length (rows n t) = omega (arith, length-rows n t) in
     omega (arith, c .before .before .signed-share .ensures .minus-small, start .pre .accepted .limited)
 
--- src/sums.rt:96:9
 add-k : tie.Need-add-k Inv-loop μ-loop
 add-k c =
     let start = c .before .before .before .before .before .before .before .before .before in
@@ -107,11 +92,9 @@ add-k c =
     let l : k < length (rows n t) = omega (arith, length-rows n t) in
     omega (arith, start .pre .accepted .limited)
 
--- src/sums.rt:91:5
 loop-less : tie.Need-loop-less Inv-loop μ-loop
 loop-less c = search needs
 
--- src/sums.rt:91:5
 loop-again : tie.Need-loop-again Inv-loop μ-loop
 loop-again c =
     let start = c .before .before .before .before .before .before .before .before .before in
@@ -130,7 +113,6 @@ loop-again c =
     omega (arith, c .before .before .signed-share .ensures .plus-small),
     omega (arith, c .before .before .signed-share .ensures .minus-small))
 
--- src/sums.rt:83:1
 returns : tie.Need-returns Inv-loop μ-loop
 returns c =
     let start = c .before .before .before .before in

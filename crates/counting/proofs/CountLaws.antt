@@ -112,8 +112,10 @@ pub upTo-once : (n s : ℕ) (u : Monomial) → length u ≡ n → degree u ≤ s
 unfolding occurrences
 upTo-once n s u e h =
     length-keep (sameTest u) (monomialsUpTo n s)
-    ∙ sum-same _ _ (monomialsUpTo n s) (λ q m. ap bit (tests-same (sameTest u q) (coneTest (unmarked u) u q) (tests-sameTest u q) (tests-unmarked u q (e ∙ sym (upTo-only n s q m .0)))))
-    ∙ subst (λ (k : ℕ). sum (λ q. bit (coneTest (unmarked u) u q)) (monomialsUpTo k s) ≡ size s (degree u) (weight (unmarked u))) e (cone-count (unmarked u) u (length-unmarked u) s)
+    ∙ sum-same _ _ (monomialsUpTo n s) (λ q m.
+    ap bit (tests-same (sameTest u q) (coneTest (unmarked u) u q) (tests-sameTest u q) (tests-unmarked u q (e ∙ sym (upTo-only n s q m .0)))))
+    ∙ subst (λ (k : ℕ). sum (λ q. bit (coneTest (unmarked u) u q)) (monomialsUpTo k s) ≡ size s (degree u) (weight (unmarked u))) e
+    (cone-count (unmarked u) u (length-unmarked u) s)
     ∙ ap (size s (degree u)) (weight-unmarked u)
     ∙ sym (share-size s (degree u) 0)
     ∙ share-inside s (degree u) 0 h
@@ -147,7 +149,8 @@ upTo-length n s = length-ones (monomialsUpTo n s) ∙ upTo-ones n s ∙ ap (λ (
 -- M are the marks of a table, `marked u i` the test of the mark of row u at variable i. A monomial of the ideal is in the cone of one row
 -- number and no more, any other in none. So the monomials of the ideal up to s, counted one by one, are those of all cones, and those of
 -- one cone are its share.
-module _ (M : Marking) (marked : Monomial → ℕ → Bool) (n : ℕ) (G : Table) (z : OfSize n G) (agrees : (u : Monomial) → u ∈ G → (i : ℕ) → 0 < i → i ≤ n → Tests (marked u i) (M G u i)) where
+module _ (M : Marking) (marked : Monomial → ℕ → Bool) (n : ℕ) (G : Table) (z : OfSize n G)
+    (agrees : (u : Monomial) → u ∈ G → (i : ℕ) → 0 < i → i ≤ n → Tests (marked u i) (M G u i)) where
   abbrev pub shareOf : ℕ → Monomial → ℕ
   shareOf s u = share s (degree u) (marksCount n (marked u))
 
@@ -163,7 +166,11 @@ module _ (M : Marking) (marked : Monomial → ℕ → Bool) (n : ℕ) (G : Table
         divides = λ i. p i .0;
         only = λ i h. agrees u m i (at i h .0) (at i h .1) .sound (subst T (listed-at n (marked u) i (at i h .0) (at i h .1)) (p i .1 h));
       })
-      (λ (d : Cone (M G u) u q) i. (d .divides i, λ h. subst T (sym (listed-at n (marked u) i (at i h .0) (at i h .1))) (agrees u m i (at i h .0) (at i h .1) .complete (d .only i h))))
+      (λ (d : Cone (M G u) u q) i. (
+        d .divides i,
+        λ h.
+            subst T (sym (listed-at n (marked u) i (at i h .0) (at i h .1))) (agrees u m i (at i h .0) (at i h .1) .complete (d .only i h)),
+      ))
 
   module _ (disjoint : Disjoint M G) (covers : Covers M n G) (s : ℕ) where
     cones-at : (q : Monomial) → length q ≡ n → bit (insideTest G q) ≡ sum (λ u. bit (coneOf q u)) G
@@ -208,4 +215,5 @@ not-both false t s = t
 
 pub count-zeros : (n : ℕ) (G : Table) (u : Monomial) → u ∈ G → ((i : ℕ) → u ! i ≡ 0) → (s : ℕ) → countAt n G s ≡ 0
 unfolding countAt
-count-zeros n G u m h s = nothing-kept (λ q. not (insideTest G q)) (monomialsUpTo n s) (λ q t. not-both (insideTest G q) (tests-inside G q .complete (inside-zeros G u q m h)) t)
+count-zeros n G u m h s = nothing-kept (λ q. not (insideTest G q)) (monomialsUpTo n s)
+    (λ q t. not-both (insideTest G q) (tests-inside G q .complete (inside-zeros G u q m h)) t)

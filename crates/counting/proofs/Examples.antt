@@ -64,5 +64,5 @@ example-C-polynomial (suc (suc k)) =
     ∙ +ℤ-negℤ-cancel (pos 3) (pos k)
 
 pub example-D : (countAt 2 rowsD 3 ≡ 6) × (countAt 2 rowsD 0 ≡ 1) × (polynomialAt 2 rowsD 0 ≡ pos 3) × (steadyOf rowsD ≡ 3)
-unfolding countAt monomialsUpTo extended raised insideTest dividesTest polynomialAt sumℤ signedShare chooseℤ oddTest choose marksIn marksCount multiplicativeTest degree steadyOf
+unfolding countAt monomialsUpTo extended raised insideTest dividesTest polynomialAt sumℤ signedShare chooseℤ oddTest choose marksIn steadyOf
 example-D = (refl, refl, refl, refl)

@@ -53,7 +53,8 @@ steady-shape (steady.Refused m) h = refl
 
 pub count-unique : (n : ℕ) (table : List ℕ) (s : ℕ) (a b : CountAnswer) → CountPromise n table s a → CountPromise n table s b → a ≡ b
 count-unique n table s a b p q =
-    one-answer countNumber count.Refused count-shape (refusal (countChecks n table s)) (count.Value (countAt n (rows n table) s)) a b (p .number) (p .value) (q .number) (q .value)
+    one-answer countNumber count.Refused count-shape (refusal (countChecks n table s)) (count.Value (countAt n (rows n table) s)) a b
+    (p .number) (p .value) (q .number) (q .value)
 
 pub polynomial-unique : (n : ℕ) (table : List ℕ) (s : ℕ) (a b : PolynomialAnswer) → PolynomialPromise n table s a → PolynomialPromise n table s b → a ≡ b
 polynomial-unique n table s a b p q =
@@ -91,7 +92,9 @@ module _ (n : ℕ) (table : List ℕ) (m : ℕ) (e : m ≡ refusal (steadyChecks
 
 module _ (n : ℕ) (table : List ℕ) (m : ℕ) (e : m ≡ refusal (tableChecks n table)) where
   pub table-first : (checks : List Check) → (m ≡ 0 → ⊥) → m ≡ refusal (tableChecks n table ++ checks)
-  table-first checks f = e ∙ sym (refusal-first (tableChecks n table) checks (by-cases (decLt 0 (refusal (tableChecks n table))) (λ h. h) (λ g. absurd (f (omega arith)))))
+  table-first checks f =
+      let p : 0 < refusal (tableChecks n table) = by-cases (decLt 0 (refusal (tableChecks n table))) (λ h. h) (λ g. absurd (f (omega arith))) in
+      e ∙ sym (refusal-first (tableChecks n table) checks p)
 
   pub table-passed : (checks : List Check) → m ≡ 0 → refusal (tableChecks n table ++ checks) ≡ refusal checks
   table-passed checks z = refusal-append (tableChecks n table) checks (accepted (tableChecks n table) (sym e ∙ z))
@@ -112,9 +115,12 @@ module _ (n : ℕ) (table : List ℕ) where
   -- what passes 6 and 7
   order-checked : refusal (orderChecks n table) ≡ 0 → Ascending (rows n table) × Complete n (rows n table)
   order-checked e =
-      let a = accepted (orderChecks n table) e in
-      (by-cases (decide (tests-ascending (rows n table))) (λ h. h) (λ f. absurd (a (check 6 (lit< tt) (tests-notAscending n table)) (List·Memᴰ·head refl) f)),
-      by-cases (decide (tests-complete n (rows n table))) (λ h. h) (λ f. absurd (a (check 7 (lit< tt) (tests-notComplete n table)) (List·Memᴰ·tail (List·Memᴰ·head refl)) f)))
+      let a = accepted (orderChecks n table) e in (
+        by-cases (decide (tests-ascending (rows n table))) (λ h. h)
+            (λ f. absurd (a (check 6 (lit< tt) (tests-notAscending n table)) (List·Memᴰ·head refl) f)),
+        by-cases (decide (tests-complete n (rows n table))) (λ h. h)
+            (λ f. absurd (a (check 7 (lit< tt) (tests-notComplete n table)) (List·Memᴰ·tail (List·Memᴰ·head refl)) f)),
+      )
 
 -- where a list in two parts does not refuse, its first part does not
 first-passes : (earlier checks : List Check) → refusal (earlier ++ checks) ≡ 0 → refusal earlier ≡ 0

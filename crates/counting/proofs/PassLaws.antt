@@ -26,9 +26,9 @@ use lib.Count.{ones, ones-le}
 use lib.Pow.{pow-mono}
 use lib.ListN.{length, getD, drop, length-append, drop-of-length-le, List·getD-append}
 use lib.Seq.{drop-cons}
+use lib.IntN.{ℤ, pos, negsuc, negℤ, natAbs, subℕ, _+ℤ_, _-ℤ_, +ℤ-idl, +ℤ-idr, +ℤ-assoc, +ℤ-comm, negℤ-+ℤ, negℤ-negℤ, pos-+ℤ-pos}
 use mir.Syntax.{w64}
 use mir.Val.{SFits}
-use lib.IntN.{ℤ, pos, negsuc, negℤ, natAbs, subℕ, _+ℤ_, _-ℤ_, +ℤ-idl, +ℤ-idr, +ℤ-assoc, +ℤ-comm, negℤ-+ℤ, negℤ-negℤ, pos-+ℤ-pos}
 use Rattle.binomial.specs.Choose.{choose}
 use Rattle.binomial.proofs.ChooseLaws.{choose-within}
 use Rattle.terms.specs.Tests.{pick}
@@ -92,7 +92,8 @@ module _ (s : ℕ) (G : Table) (marks : List ℕ) (k : ℕ) where
   shares-done h = rw (drop-of-length-le G h)
 
   pub signed-next : k < length G → k < length marks
-      → signedSharesOf s (drop k G) (drop k marks) ≡ signedShare s (degree (rowAt G k)) (ones (getD marks k 0)) +ℤ signedSharesOf s (drop (k + 1) G) (drop (k + 1) marks)
+      → signedSharesOf s (drop k G) (drop k marks)
+      ≡ signedShare s (degree (rowAt G k)) (ones (getD marks k 0)) +ℤ signedSharesOf s (drop (k + 1) G) (drop (k + 1) marks)
   unfolding signedSharesOf
   signed-next h g = rw (add-one, drop-cons G k [], drop-cons marks k 0)
 

@@ -22,8 +22,8 @@ use Rattle.binomial.specs.Choose.{choose}
 use Rattle.binomial.proofs.ChooseLaws.{choose-self}
 use Rattle.terms.specs.Tests.{Tests, pick, tests-as, tests-and}
 use Rattle.terms.specs.Monomials.{Monomial, _!_, degree}
-use Rattle.counting.specs.Counts.{sum, raised, extended, monomialsUpTo, share}
 use Rattle.division.proofs.Facade.{marksCount}
+use Rattle.counting.specs.Counts.{sum, raised, extended, monomialsUpTo, share}
 use Rattle.counting.proofs.SumLaws.{bit, sum-append, sum-zero, sum-same, sum-map}
 
 -- ---- the share by steps
@@ -112,7 +112,9 @@ unfolding reaches
 tests-reaches k zero zero = record { sound = λ t. (omega arith, λ h. absurd (omega arith)); complete = λ p. tt }
 tests-reaches k zero (suc a) = record { sound = λ t. (omega arith, λ h. t); complete = λ p. p .1 (omega arith) }
 tests-reaches k (suc b) zero = record { sound = λ t. absurd t; complete = λ p. not-suc-le-zero (p .0) }
-tests-reaches k (suc b) (suc a) = tests-as (tests-reaches k b a) (λ p. (omega (arith, p .0), λ h. p .1 (omega arith))) (λ p. (omega (arith, p .0), λ h. p .1 (omega arith)))
+tests-reaches k (suc b) (suc a) = tests-as (tests-reaches k b a)
+    (λ p. (omega (arith, p .0), λ h. p .1 (omega arith)))
+    (λ p. (omega (arith, p .0), λ h. p .1 (omega arith)))
 
 abbrev Reached : List Bool → Monomial → Monomial → ℕ → Type 0
 Reached ks u q i = (u ! i ≤ q ! i) × (u ! i < q ! i → T (markAt ks i))

@@ -1,7 +1,8 @@
 // The checks of count, polynomial and steady, in the order of their numbers.
 use division::completeness::table_complete;
-use terms::{ascends, table_refusal, Degree};
-
+use terms::Degree;
+use terms::ascends;
+use terms::table_refusal;
 ghost use mathlib.Core.Path.{_≡_};
 ghost use Rattle.terms.specs.Refusals.{refusal};
 ghost use Rattle.terms.proofs.RefusalLaws.{TableAccepted};

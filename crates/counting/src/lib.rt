@@ -1,14 +1,16 @@
 // Counts above the division (rules 7 to 9): count, polynomial and steady of a complete table.
 use division::marking::mark_ascending;
 use terms::Degree;
-
 ghost use Rattle.counting.specs.Operations.{CountPromise, PolynomialPromise, SteadyPromise};
 
 pub mod checks;
 pub mod sums;
 
-use checks::{count_refusal, steady_refusal};
-use sums::{count_sum, polynomial_sum, steady_sum};
+use checks::count_refusal;
+use checks::steady_refusal;
+use sums::count_sum;
+use sums::polynomial_sum;
+use sums::steady_sum;
 
 // What `count` answers.
 pub enum CountAnswer {

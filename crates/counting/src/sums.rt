@@ -1,7 +1,9 @@
 // The sums over the rows of a checked table, without the checks: a caller that wants many degrees of one table checks once.
 use binomial::choose;
-use terms::{degree_of, row_at, Degree, RowNumber};
-
+use terms::Degree;
+use terms::RowNumber;
+use terms::degree_of;
+use terms::row_at;
 ghost use mathlib.Core.Path.{_≡_};
 ghost use Prim.Native.Nat.{ℕ, _+_, _≤_, _<_};
 ghost use lib.ListN.{length};
@@ -9,7 +11,7 @@ ghost use lib.IntN.{pos, _-ℤ_};
 ghost use Rattle.terms.specs.Monomials.{rowAt, degree};
 ghost use Rattle.terms.specs.Rows.{rows};
 ghost use Rattle.counting.specs.Counts.{countAt, share, signedShare, polynomialAt, steadyOf};
-ghost use Rattle.counting.specs.Sums.{Summable, Checked, Marked, Splits, sharesOf, signedSharesOf};
+ghost use Rattle.counting.specs.Sums.{Summable, Checked, Marked, Splits, SplitsAll, sharesOf};
 
 // A share of rule 8, or a sum of such shares: what counts for it, and what counts against it.
 pub struct SignedShare {
@@ -71,19 +73,28 @@ fn signed_share(s: Degree, d: Degree, m: usize) -> SignedShare
     let most = s.0;
     let own = d.0;
     if own <= most + m {
-        return SignedShare { plus: choose(most + m - own, m), minus: 0 };
+        return SignedShare {
+            plus: choose(most + m - own, m),
+            minus: 0,
+        };
     }
     let size = choose(own - most - 1, m);
     if m % 2 == 1 {
-        return SignedShare { plus: 0, minus: size };
+        return SignedShare {
+            plus: 0,
+            minus: size,
+        };
     }
-    SignedShare { plus: size, minus: 0 }
+    SignedShare {
+        plus: size,
+        minus: 0,
+    }
 }
 
 // The shares of all rows, no row left out.
 fn signed_shares(n: usize, table: &[u8], marks: &[u8], s: Degree) -> SignedShare
     requires { ⌜ Summable n (now table) (now marks) (s .0) ⌝ }
-    ensures { λ r. ⌜ Splits (length (rows n (now (table .entry)))) (signedSharesOf (s .0) (rows n (now (table .entry))) (now (marks .entry))) (r .plus) (r .minus) ⌝ }
+    ensures { λ r. ⌜ SplitsAll n (now (table .entry)) (now (marks .entry)) (s .0) (r .plus) (r .minus) ⌝ }
 {
     let count = table.len() / n;
     let mut plus: u64 = 0;

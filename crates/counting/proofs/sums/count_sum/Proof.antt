@@ -1,7 +1,7 @@
 -- `counting::sums::count_sum` meets its contract: by rule 7 the count and the shares make C(n + s, n).
-use Rattle.counting.proofs.PassLaws.{summable, count-sum}
 use native.Mathlib.Omega.{arith}
 use borrow.Author.Needs.{needs}
+use Rattle.counting.proofs.PassLaws.{summable, count-sum}
 use Rattle.counting.proofs.sums.count_sum.Statement.{statement}
 use Rattle.counting.proofs.sums.count_sum.Tie as tie
 
@@ -19,12 +19,14 @@ shares-requires c κs =
 sub-result : tie.Need-sub-result
 sub-result c =
     let start = c .before .before .before .before in
-    omega (arith, count-sum _ _ _ (start .pre .0) (start .pre .1) (start .args .s .0), c .before .choose .ensures, c .shares .ensures)
+    let made = count-sum _ _ _ (start .pre .0) (start .pre .1) (start .args .s .0) in
+    omega (arith, c .before .choose .ensures, c .shares .ensures)
 
 returns : tie.Need-returns
 returns c =
     let start = c .before .before .before .before in
-    omega (arith, count-sum _ _ _ (start .pre .0) (start .pre .1) (start .args .s .0), c .before .choose .ensures, c .shares .ensures)
+    let made = count-sum _ _ _ (start .pre .0) (start .pre .1) (start .args .s .0) in
+    omega (arith, c .before .choose .ensures, c .shares .ensures)
 
 pub count-sum-spec : {M : Type 1} → statement M
 count-sum-spec = tie.close (tie.spec add-choose choose-requires shares-requires sub-result returns)

@@ -1,10 +1,10 @@
 -- `counting::sums::difference` meets its contract: both numbers are small enough that they and their difference fit an i64.
+use mathlib.Core.Path.{_∙_}
+use native.Mathlib.Omega.{arith}
+use borrow.Author.Needs.{needs}
 use mir.Syntax.{w64}
 use mir.ValLaws.{toZ-ofZ, toZ-pos}
 use Rattle.counting.proofs.PassLaws.{small-fits, abs-difference}
-use native.Mathlib.Omega.{arith}
-use mathlib.Core.Path.{_∙_}
-use borrow.Author.Needs.{needs}
 use Rattle.counting.proofs.sums.difference.Statement.{statement}
 use Rattle.counting.proofs.sums.difference.Tie as tie
 

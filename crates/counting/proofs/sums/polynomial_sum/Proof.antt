@@ -1,14 +1,13 @@
 -- `counting::sums::polynomial_sum` meets its contract: C(n + s, n) less the shares, as one difference of two sums.
-use Rattle.binomial.specs.Choose.{choose}
-use mir.Syntax.{w64}
-use mir.ValLaws.{toZ-ofZ}
-use lib.IntN.{pos, _-ℤ_}
-use Rattle.binomial.proofs.ChooseLaws.{choose-within}
-use Rattle.counting.proofs.PassLaws.{summable, polynomial-sum, small-fits, abs-difference}
-use native.Mathlib.Omega.{arith}
 use mathlib.Core.Path.{_≡_, ap, _∙_}
 use Prim.Native.Nat.{ℕ, _+_, _<_}
+use native.Mathlib.Omega.{arith}
 use borrow.Author.Needs.{needs}
+use lib.IntN.{pos, _-ℤ_}
+use mir.Syntax.{w64}
+use mir.ValLaws.{toZ-ofZ}
+use Rattle.binomial.proofs.ChooseLaws.{choose-within}
+use Rattle.counting.proofs.PassLaws.{summable, polynomial-sum, small-fits, abs-difference}
 use Rattle.counting.proofs.sums.polynomial_sum.Statement.{statement}
 use Rattle.counting.proofs.sums.polynomial_sum.Tie as tie
 
@@ -25,7 +24,8 @@ signed-shares-requires c κs =
 
 -- each of at most 4,096 shares and C(n + s, n) is at most the largest binomial
 small : (c : tie.After-struct-known) →
-    (c .before .before .choose .result + c .before .signed-shares .result .minus < 4611686018427387904) × (c .before .signed-shares .result .plus < 4611686018427387904)
+    (c .before .before .choose .result + c .before .signed-shares .result .minus < 4611686018427387904)
+    × (c .before .signed-shares .result .plus < 4611686018427387904)
 small c =
     let start = c .before .before .before .before .before in
     let sum = c .before .signed-shares .ensures in
@@ -44,11 +44,11 @@ returns c =
     let start = c .before .before .before .before .before .before in
     let sum = c .before .before .signed-shares .result in
     let bounds = small (c .before) in
-    let all : c .before .before .before .choose .result ≡ choose (start .args .n + start .args .s .0) (start .args .n) = c .before .before .before .choose .ensures in
-    let e : c .difference .result ≡ pos (c .before .before .before .choose .result + sum .minus) -ℤ pos (sum .plus) = c .difference .ensures in
-    toZ-ofZ w64 _ (rw e (small-fits _ (omega (arith, abs-difference (c .before .before .before .choose .result + sum .minus) (sum .plus)))))
+    let all = c .before .before .before .choose in
+    let e : c .difference .result ≡ pos (all .result + sum .minus) -ℤ pos (sum .plus) = c .difference .ensures in
+    toZ-ofZ w64 _ (rw e (small-fits _ (omega (arith, abs-difference (all .result + sum .minus) (sum .plus)))))
     ∙ e
-    ∙ ap (λ (x : ℕ). pos (x + sum .minus) -ℤ pos (sum .plus)) all
+    ∙ ap (λ (x : ℕ). pos (x + sum .minus) -ℤ pos (sum .plus)) (all .ensures)
     ∙ polynomial-sum _ _ _ (start .pre .0) (start .pre .1) _ (sum .plus) (sum .minus) (c .before .before .signed-shares .ensures .difference)
 
 pub polynomial-sum-spec : {M : Type 1} → statement M

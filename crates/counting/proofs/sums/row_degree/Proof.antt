@@ -1,11 +1,11 @@
 -- `counting::sums::row_degree` meets its contract: the row is read with zeros for the exponents that it lacks, which add nothing.
+use mathlib.Core.Path.{ap, _∙_}
+use borrow.Author.Needs.{needs}
+use denote.Ref.{now}
 use Rattle.terms.specs.declared.Row.{Row}
-use Rattle.counting.proofs.PassLaws.{degree-padded}
 use Rattle.terms.specs.Monomials.{rowAt, degree}
 use Rattle.terms.specs.Rows.{rows, asRow}
-use mathlib.Core.Path.{ap, _∙_}
-use denote.Ref.{now}
-use borrow.Author.Needs.{needs}
+use Rattle.counting.proofs.PassLaws.{degree-padded}
 use Rattle.counting.proofs.sums.row_degree.Statement.{statement}
 use Rattle.counting.proofs.sums.row_degree.Tie as tie
 

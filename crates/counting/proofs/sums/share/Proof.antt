@@ -1,8 +1,8 @@
 -- `counting::sums::share` meets its contract: the two cases of rule 7.
-use Rattle.counting.proofs.ShareLaws.{share-inside, share-outside}
-use native.Mathlib.Omega.{arith}
 use mathlib.Core.Path.{sym, _∙_}
+use native.Mathlib.Omega.{arith}
 use borrow.Author.Needs.{needs}
+use Rattle.counting.proofs.ShareLaws.{share-inside, share-outside}
 use Rattle.counting.proofs.sums.share.Statement.{statement}
 use Rattle.counting.proofs.sums.share.Tie as tie
 

@@ -1,7 +1,7 @@
 -- `counting::sums::signed_share` meets its contract: t is not negative, or it is and m is odd, or even.
-use Rattle.counting.proofs.PassLaws.{splits-plus, splits-odd, splits-even}
 use native.Mathlib.Omega.{arith}
 use borrow.Author.Needs.{needs}
+use Rattle.counting.proofs.PassLaws.{splits-plus, splits-odd, splits-even}
 use Rattle.counting.proofs.sums.signed_share.Statement.{statement}
 use Rattle.counting.proofs.sums.signed_share.Tie as tie
 
@@ -18,7 +18,9 @@ choose-requires : tie.Need-choose-requires
 choose-requires c κs = search needs
 
 returns : tie.Need-returns
-returns c = rw (c .choose .ensures) (splits-plus _ _ _ (c .before .before .pre .0) (c .before .before .pre .2) (omega arith))
+returns c =
+    let p = c .before .before .pre in
+    rw (c .choose .ensures) (splits-plus _ _ _ (p .0) (p .2) (omega arith))
 
 sub-choose-2 : tie.Need-sub-choose-2
 sub-choose-2 c = search needs
@@ -30,10 +32,14 @@ choose-requires-2 : tie.Need-choose-requires-2
 choose-requires-2 c κs = search needs
 
 returns-2 : tie.Need-returns-2
-returns-2 c = rw (c .before .choose2 .ensures) (splits-odd _ _ _ (c .before .before .before .pre .0) (c .before .before .before .pre .2) (c .before .before .before .pre .1) (omega arith) (omega arith))
+returns-2 c =
+    let p = c .before .before .before .pre in
+    rw (c .before .choose2 .ensures) (splits-odd _ _ _ (p .0) (p .2) (p .1) (omega arith) (omega arith))
 
 returns-3 : tie.Need-returns-3
-returns-3 c = rw (c .before .choose2 .ensures) (splits-even _ _ _ (c .before .before .before .pre .0) (c .before .before .before .pre .2) (c .before .before .before .pre .1) (omega arith) (λ e. omega arith))
+returns-3 c =
+    let p = c .before .before .before .pre in
+    rw (c .before .choose2 .ensures) (splits-even _ _ _ (p .0) (p .2) (p .1) (omega arith) (λ e. omega arith))
 
 pub signed-share-spec : {M : Type 1} → statement M
 signed-share-spec =

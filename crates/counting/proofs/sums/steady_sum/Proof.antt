@@ -1,16 +1,16 @@
 -- `counting::sums::steady_sum` meets its contract. The invariant: the largest degree so far and that of the rows from k on make the whole.
+use mathlib.Core.Path.{_≡_}
+use mathlib.Core.Logic.{⊎-elim}
+use Prim.Native.Nat.{max, _-_, _≤_}
 use native.Mathlib.Nat.{div-le-self}
+use native.Mathlib.Omega.{arith}
+use borrow.Author.Needs.{needs}
+use lib.ListN.{length, drop}
+use denote.Ref.{now}
 use Rattle.terms.specs.Rows.{rows}
 use Rattle.terms.proofs.RowsLaws.{length-rows}
 use Rattle.counting.specs.Counts.{steadyOf}
-use Prim.Native.Nat.{max, _-_, _≤_}
 use Rattle.counting.proofs.PassLaws.{steady-next, steady-done}
-use borrow.Author.Needs.{needs}
-use native.Mathlib.Omega.{arith}
-use mathlib.Core.Path.{_≡_}
-use mathlib.Core.Logic.{⊎-elim}
-use lib.ListN.{length, drop}
-use denote.Ref.{now}
 use Rattle.counting.proofs.sums.steady_sum.Statement.{statement}
 use Rattle.counting.proofs.sums.steady_sum.Tie as tie
 

@@ -5,7 +5,7 @@
 --   table-first, table-passed      the checks 1 to 4 refuse, or they pass and the others decide
 --   late-5, late-passed, order-6, order-7, order-0   the checks 5, 6 and 7
 --   count-checked, steady-checked  what is known of a table that no check refuses
-use mathlib.Core.Path.{_≡_, refl, sym, ap, _∙_, subst}
+use mathlib.Core.Path.{_≡_, refl, sym, ap, _∙_}
 use mathlib.Core.List.{List, [], _∷_, _++_, List·Memᴰ·head, List·Memᴰ·tail}
 use mathlib.Core.Logic.{by-cases}
 use Prim.Native.Nat.{ℕ, zero, suc, _≤_, _<_}
@@ -18,11 +18,12 @@ use Rattle.terms.specs.Order.{Ascending}
 use Rattle.terms.specs.Rows.{rows}
 use Rattle.terms.specs.Refusals.{Check, refusal, check, tableChecks}
 use Rattle.terms.proofs.OrderLaws.{tests-ascending}
-use Rattle.terms.proofs.RefusalLaws.{accepted, refusal-append, refusal-first, refusal-holds, refusal-passes, accepts-refusal, table-accepted}
+use Rattle.terms.proofs.RefusalLaws.{accepted, refusal-append, refusal-first, refusal-holds, refusal-passes, table-accepted}
 use Rattle.division.proofs.Facade.{Complete, tests-complete}
 use Rattle.counting.specs.Counts.{countAt, polynomialAt, steadyOf}
 use Rattle.counting.specs.Sums.{Checked}
-use Rattle.counting.specs.Operations.{orderChecks, countChecks, steadyChecks, CountPromise, countNumber, PolynomialPromise, polynomialNumber, SteadyPromise, steadyNumber, tests-notAscending, tests-notComplete}
+use Rattle.counting.specs.Operations.{orderChecks, countChecks, steadyChecks, CountPromise, countNumber, PolynomialPromise}
+use Rattle.counting.specs.Operations.{polynomialNumber, SteadyPromise, steadyNumber, tests-notAscending, tests-notComplete}
 use Rattle.counting.specs.declared.CountAnswer.{CountAnswer}
 use Rattle.counting.specs.declared.CountAnswer.the-variants as count
 use Rattle.counting.specs.declared.PolynomialAnswer.{PolynomialAnswer}
@@ -52,7 +53,8 @@ steady-shape (steady.Refused m) h = refl
 
 pub count-unique : (n : ℕ) (table : List ℕ) (s : ℕ) (a b : CountAnswer) → CountPromise n table s a → CountPromise n table s b → a ≡ b
 count-unique n table s a b p q =
-    one-answer countNumber count.Refused count-shape (refusal (countChecks n table s)) (count.Value (countAt n (rows n table) s)) a b (p .number) (p .value) (q .number) (q .value)
+    one-answer countNumber count.Refused count-shape (refusal (countChecks n table s)) (count.Value (countAt n (rows n table) s)) a b
+    (p .number) (p .value) (q .number) (q .value)
 
 pub polynomial-unique : (n : ℕ) (table : List ℕ) (s : ℕ) (a b : PolynomialAnswer) → PolynomialPromise n table s a → PolynomialPromise n table s b → a ≡ b
 polynomial-unique n table s a b p q =
@@ -90,7 +92,9 @@ module _ (n : ℕ) (table : List ℕ) (m : ℕ) (e : m ≡ refusal (steadyChecks
 
 module _ (n : ℕ) (table : List ℕ) (m : ℕ) (e : m ≡ refusal (tableChecks n table)) where
   pub table-first : (checks : List Check) → (m ≡ 0 → ⊥) → m ≡ refusal (tableChecks n table ++ checks)
-  table-first checks f = e ∙ sym (refusal-first (tableChecks n table) checks (by-cases (decLt 0 (refusal (tableChecks n table))) (λ h. h) (λ g. absurd (f (omega arith)))))
+  table-first checks f =
+      let p : 0 < refusal (tableChecks n table) = by-cases (decLt 0 (refusal (tableChecks n table))) (λ h. h) (λ g. absurd (f (omega arith))) in
+      e ∙ sym (refusal-first (tableChecks n table) checks p)
 
   pub table-passed : (checks : List Check) → m ≡ 0 → refusal (tableChecks n table ++ checks) ≡ refusal checks
   table-passed checks z = refusal-append (tableChecks n table) checks (accepted (tableChecks n table) (sym e ∙ z))
@@ -112,8 +116,10 @@ module _ (n : ℕ) (table : List ℕ) where
   order-checked : refusal (orderChecks n table) ≡ 0 → Ascending (rows n table) × Complete n (rows n table)
   order-checked e =
       let a = accepted (orderChecks n table) e in (
-        by-cases (decide (tests-ascending (rows n table))) (λ h. h) (λ f. absurd (a (check 6 (lit< tt) (tests-notAscending n table)) (List·Memᴰ·head refl) f)),
-        by-cases (decide (tests-complete n (rows n table))) (λ h. h) (λ f. absurd (a (check 7 (lit< tt) (tests-notComplete n table)) (List·Memᴰ·tail (List·Memᴰ·head refl)) f)),
+        by-cases (decide (tests-ascending (rows n table))) (λ h. h)
+            (λ f. absurd (a (check 6 (lit< tt) (tests-notAscending n table)) (List·Memᴰ·head refl) f)),
+        by-cases (decide (tests-complete n (rows n table))) (λ h. h)
+            (λ f. absurd (a (check 7 (lit< tt) (tests-notComplete n table)) (List·Memᴰ·tail (List·Memᴰ·head refl)) f)),
       )
 
 -- where a list in two parts does not refuse, its first part does not

@@ -12,24 +12,23 @@
 --   count-sum, polynomial-sum   what the sums over a checked and marked table are
 --   small-fits, abs-difference  when a difference fits an i64
 --   steady-next, steady-done   the largest degree from a row on
-use mathlib.Core.Path.{_≡_, refl, sym, ap, ap₂, _∙_, subst}
-use mathlib.Core.Bool.{Bool, true, false, not}
-use mathlib.Core.List.{List, [], _∷_, _++_, map, List·Memᴰ}
+use mathlib.Core.Path.{_≡_, refl, sym, ap, ap₂, _∙_}
+use mathlib.Core.Bool.{true, false, not}
+use mathlib.Core.List.{List, [], _∷_, _++_}
 use mathlib.Core.Logic.{_⊎_, inl, inr, ⊎-elim, by-cases}
-use Prim.Native.Nat.{ℕ, zero, suc, _+_, _*_, _-_, _%_, _^_, _≤_, _<_, max}
+use Prim.Native.Nat.{ℕ, zero, suc, _+_, _*_, _-_, _%_, _≤_, _<_, max}
 use native.Mathlib.Nat.{not-suc-le-zero, le-of-suc-le-suc}
 use native.Mathlib.Numerals.{add-one}
 use native.Mathlib.Decide.{decLe, decLt}
 use native.Mathlib.Omega.{arith}
 use borrow.Author.Tests.{lt-ltb}
 use lib.Count.{ones, ones-le}
-use lib.Dec.{T, ltb}
 use lib.Pow.{pow-mono}
 use lib.ListN.{length, getD, drop, length-append, drop-of-length-le, List·getD-append}
 use lib.Seq.{drop-cons}
+use lib.IntN.{ℤ, pos, negsuc, negℤ, natAbs, subℕ, _+ℤ_, _-ℤ_, +ℤ-idl, +ℤ-idr, +ℤ-assoc, +ℤ-comm, negℤ-+ℤ, negℤ-negℤ, pos-+ℤ-pos}
 use mir.Syntax.{w64}
 use mir.Val.{SFits}
-use lib.IntN.{ℤ, pos, negsuc, negℤ, natAbs, subℕ, _+ℤ_, _-ℤ_, +ℤ-idl, +ℤ-idr, +ℤ-assoc, +ℤ-comm, negℤ-+ℤ, negℤ-negℤ, pos-+ℤ-pos}
 use Rattle.binomial.specs.Choose.{choose}
 use Rattle.binomial.proofs.ChooseLaws.{choose-within}
 use Rattle.terms.specs.Tests.{pick}
@@ -83,7 +82,8 @@ pub marks-few : (b : ℕ) → b < 64 → ones b ≤ 6
 marks-few b h = ones-le 6 b h
 
 module _ (s : ℕ) (G : Table) (marks : List ℕ) (k : ℕ) where
-  pub shares-next : k < length G → k < length marks → sharesOf s (drop k G) (drop k marks) ≡ share s (degree (rowAt G k)) (ones (getD marks k 0)) + sharesOf s (drop (k + 1) G) (drop (k + 1) marks)
+  pub shares-next : k < length G → k < length marks
+      → sharesOf s (drop k G) (drop k marks) ≡ share s (degree (rowAt G k)) (ones (getD marks k 0)) + sharesOf s (drop (k + 1) G) (drop (k + 1) marks)
   unfolding sharesOf
   shares-next h g = rw (add-one, drop-cons G k [], drop-cons marks k 0)
 
@@ -91,7 +91,9 @@ module _ (s : ℕ) (G : Table) (marks : List ℕ) (k : ℕ) where
   unfolding sharesOf
   shares-done h = rw (drop-of-length-le G h)
 
-  pub signed-next : k < length G → k < length marks → signedSharesOf s (drop k G) (drop k marks) ≡ signedShare s (degree (rowAt G k)) (ones (getD marks k 0)) +ℤ signedSharesOf s (drop (k + 1) G) (drop (k + 1) marks)
+  pub signed-next : k < length G → k < length marks
+      → signedSharesOf s (drop k G) (drop k marks)
+      ≡ signedShare s (degree (rowAt G k)) (ones (getD marks k 0)) +ℤ signedSharesOf s (drop (k + 1) G) (drop (k + 1) marks)
   unfolding signedSharesOf
   signed-next h g = rw (add-one, drop-cons G k [], drop-cons marks k 0)
 
@@ -117,7 +119,8 @@ shares-marks s n H (u ∷ G) (b ∷ marks) l h =
     ap₂ (λ (x y : ℕ). share s (degree u) x + y) (ap ones (h 0 (omega arith)) ∙ ones-marks n H u)
     (shares-marks s n H G marks (le-of-suc-le-suc l) (λ r k. h (suc r) (omega arith)))
 
-signed-marks : (s n : ℕ) (H G : Table) (marks : List ℕ) → length G ≤ length marks → MarksIn n H G marks → signedSharesOf s G marks ≡ sumℤ (λ u. signedShare s (degree u) (marksIn n H u)) G
+signed-marks : (s n : ℕ) (H G : Table) (marks : List ℕ) → length G ≤ length marks → MarksIn n H G marks
+    → signedSharesOf s G marks ≡ sumℤ (λ u. signedShare s (degree u) (marksIn n H u)) G
 unfolding signedSharesOf sumℤ
 signed-marks s n H [] marks l h = refl
 signed-marks s n H (u ∷ G) [] l h = absurd (not-suc-le-zero l)
@@ -240,7 +243,8 @@ module _ (n : ℕ) (t marks : List ℕ) (c : Checked n t) (m : Marked n t marks)
   count-sum = omega (arith, janet-count n (rows n t) (counted n t c) s, shares-marked n t marks m s)
 
   -- rule 8
-  pub polynomial-sum : (plus minus : ℕ) → pos plus -ℤ pos minus ≡ signedSharesOf s (rows n t) marks → pos (choose (n + s) n + minus) -ℤ pos plus ≡ polynomialAt n (rows n t) s
+  pub polynomial-sum : (plus minus : ℕ) → pos plus -ℤ pos minus ≡ signedSharesOf s (rows n t) marks
+      → pos (choose (n + s) n + minus) -ℤ pos plus ≡ polynomialAt n (rows n t) s
   unfolding polynomialAt
   polynomial-sum plus minus e = polynomial-split (choose (n + s) n) plus minus _ (e ∙ signed-marked n t marks m s)
 

@@ -43,6 +43,10 @@ pub record Splits (c : ℕ) (z : ℤ) (plus minus : ℕ) : Type 0 where
   pub plus-small : plus ≤ c * 1085371516236
   pub minus-small : minus ≤ c * 1085371516236
 
+-- the shares of all rows, as such a difference
+abbrev pub SplitsAll : ℕ → List ℕ → List ℕ → ℕ → ℕ → ℕ → Type 0
+SplitsAll n table marks s plus minus = Splits (length (rows n table)) (signedSharesOf s (rows n table) marks) plus minus
+
 pub record Checked (n : ℕ) (table : List ℕ) : Type 0 where
   pub accepted : TableAccepted n table
   pub ascending : Ascending (rows n table)

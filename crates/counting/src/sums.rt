@@ -11,7 +11,7 @@ ghost use lib.IntN.{pos, _-ℤ_};
 ghost use Rattle.terms.specs.Monomials.{rowAt, degree};
 ghost use Rattle.terms.specs.Rows.{rows};
 ghost use Rattle.counting.specs.Counts.{countAt, share, signedShare, polynomialAt, steadyOf};
-ghost use Rattle.counting.specs.Sums.{Summable, Checked, Marked, Splits, sharesOf, signedSharesOf};
+ghost use Rattle.counting.specs.Sums.{Summable, Checked, Marked, Splits, SplitsAll, sharesOf};
 
 // A share of rule 8, or a sum of such shares: what counts for it, and what counts against it.
 pub struct SignedShare {
@@ -94,7 +94,7 @@ fn signed_share(s: Degree, d: Degree, m: usize) -> SignedShare
 // The shares of all rows, no row left out.
 fn signed_shares(n: usize, table: &[u8], marks: &[u8], s: Degree) -> SignedShare
     requires { ⌜ Summable n (now table) (now marks) (s .0) ⌝ }
-    ensures { λ r. ⌜ Splits (length (rows n (now (table .entry)))) (signedSharesOf (s .0) (rows n (now (table .entry))) (now (marks .entry))) (r .plus) (r .minus) ⌝ }
+    ensures { λ r. ⌜ SplitsAll n (now (table .entry)) (now (marks .entry)) (s .0) (r .plus) (r .minus) ⌝ }
 {
     let count = table.len() / n;
     let mut plus: u64 = 0;

@@ -1,11 +1,11 @@
 -- `counting::count` meets its contract: it refuses by the number of its checks; where they pass the table is checked, its marks are written
 -- to the front of a local buffer, and the sum over them is the value.
-use borrow.Author.Needs.{needs}
-use mathlib.Core.Path.{_≡_, sym, _∙_}
+use mathlib.Core.Path.{sym, _∙_}
 use Prim.Native.Nat.{_≤_}
+use borrow.Author.Needs.{needs}
 use Rattle.counting.specs.Sums.{Checked}
 use Rattle.counting.proofs.PassLaws.{marked-front}
-use Rattle.counting.proofs.OperationLaws.{count-checked, count-refused, count-given}
+use Rattle.counting.proofs.OperationLaws.{count-checked, count-refused}
 use Rattle.counting.proofs.count.Statement.{statement}
 use Rattle.counting.proofs.count.Tie as tie
 

@@ -1,6 +1,6 @@
 -- `counting::steady` meets its contract: it refuses by the number of its checks; where they pass the largest degree is the value.
+use mathlib.Core.Path.{sym, _∙_}
 use borrow.Author.Needs.{needs}
-use mathlib.Core.Path.{_≡_, sym, _∙_}
 use Rattle.counting.proofs.OperationLaws.{steady-checked, steady-refused, steady-given}
 use Rattle.counting.proofs.steady.Statement.{statement}
 use Rattle.counting.proofs.steady.Tie as tie

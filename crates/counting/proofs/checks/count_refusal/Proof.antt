@@ -1,8 +1,8 @@
 -- `counting::checks::count_refusal` meets its contract: the checks 1 to 4 refuse, or they pass and 5 decides, or that passes and 6 and 7 do.
-use borrow.Author.Needs.{needs}
-use mathlib.Core.Path.{_≡_, sym, _∙_}
+use mathlib.Core.Path.{sym, _∙_}
 use mathlib.Core.List.{_∷_}
 use native.Mathlib.Omega.{arith}
+use borrow.Author.Needs.{needs}
 use Rattle.terms.specs.Refusals.{tableChecks}
 use Rattle.terms.proofs.RefusalLaws.{accepted, table-accepted}
 use Rattle.counting.specs.Operations.{orderChecks}
@@ -18,20 +18,24 @@ returns c =
     let a = c .before .before .before .args in
     let n = a .n in
     let t = a .table .now in
-    table-first n t (c .before .table-refusal .result) (c .before .table-refusal .ensures) (check5 n t (a .s .0) ∷ orderChecks n t) (c .if1 .taken)
+    let checked = c .before .table-refusal in
+    table-first n t (checked .result) (checked .ensures) (check5 n t (a .s .0) ∷ orderChecks n t) (c .if1 .taken)
 
 returns-2 : tie.Need-returns-2
 returns-2 c =
     let a = c .before .before .before .before .args in
     let n = a .n in
     let t = a .table .now in
+    let checked = c .before .before .table-refusal in
     late-5 n t (a .s .0) (omega arith)
-    ∙ sym (table-passed n t (c .before .before .table-refusal .result) (c .before .before .table-refusal .ensures) (check5 n t (a .s .0) ∷ orderChecks n t) (c .before .if1 .left))
+    ∙ sym (table-passed n t (checked .result) (checked .ensures) (check5 n t (a .s .0) ∷ orderChecks n t) (c .before .if1 .left))
 
 order-refusal-requires : tie.Need-order-refusal-requires
 order-refusal-requires c κs =
     let a = c .before .before .before .before .args in
-    table-accepted (a .n) (a .table .now) (accepted (tableChecks (a .n) (a .table .now)) (sym (c .before .before .table-refusal .ensures) ∙ c .before .if1 .left))
+    let n = a .n in
+    let t = a .table .now in
+    table-accepted n t (accepted (tableChecks n t) (sym (c .before .before .table-refusal .ensures) ∙ c .before .if1 .left))
 
 returns-3 : tie.Need-returns-3
 returns-3 c =

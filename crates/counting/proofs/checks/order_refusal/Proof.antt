@@ -1,7 +1,7 @@
 -- `counting::checks::order_refusal` meets its contract: the tests are those of the checks 6 and 7, in this order.
+use mathlib.Core.Path.{sym, _∙_}
 use borrow.Author.Needs.{needs}
 use borrow.Author.Tests.{not-true, not-false}
-use mathlib.Core.Path.{_≡_, sym, _∙_}
 use Rattle.terms.specs.Order.{Ascending}
 use Rattle.terms.specs.Rows.{rows}
 use Rattle.terms.specs.Tests.{true-tests, false-tests}
@@ -18,7 +18,8 @@ ascends-requires c κs = search needs
 returns : tie.Need-returns
 returns c =
     let a = c .before .before .before .args in
-    order-6 (a .n) (a .table .now) (false-tests (tests-ascending (rows (a .n) (a .table .now))) (sym (c .before .ascends .ensures) ∙ not-true _ (c .if1 .taken)))
+    order-6 (a .n) (a .table .now)
+    (false-tests (tests-ascending (rows (a .n) (a .table .now))) (sym (c .before .ascends .ensures) ∙ not-true _ (c .if1 .taken)))
 
 -- past the first test the rows ascend
 ascending : (c : tie.Else1) → Ascending (rows (c .before .before .before .args .n) (c .before .before .before .args .table .now))

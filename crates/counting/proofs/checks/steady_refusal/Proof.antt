@@ -1,6 +1,6 @@
 -- `counting::checks::steady_refusal` meets its contract: the checks 1 to 4 refuse, or they pass and 6 and 7 decide.
+use mathlib.Core.Path.{sym, _∙_}
 use borrow.Author.Needs.{needs}
-use mathlib.Core.Path.{_≡_, sym, _∙_}
 use Rattle.terms.specs.Refusals.{tableChecks}
 use Rattle.terms.proofs.RefusalLaws.{accepted, table-accepted}
 use Rattle.counting.specs.Operations.{orderChecks}
@@ -14,7 +14,8 @@ table-refusal-requires c κs = search needs
 returns : tie.Need-returns
 returns c =
     let a = c .before .before .before .args in
-    table-first (a .n) (a .table .now) (c .before .table-refusal .result) (c .before .table-refusal .ensures) (orderChecks (a .n) (a .table .now)) (c .if1 .taken)
+    let checked = c .before .table-refusal in
+    table-first (a .n) (a .table .now) (checked .result) (checked .ensures) (orderChecks (a .n) (a .table .now)) (c .if1 .taken)
 
 order-refusal-requires : tie.Need-order-refusal-requires
 order-refusal-requires c κs =

@@ -127,7 +127,7 @@ pub accepted-by : (b : List ℕ) → Accepts (bundleChecks b) → Accepted b
 accepted-by b a =
     record {
       layout = laid-accepts b (accepts-left (layoutChecks b) (entryChecks b) a);
-      small = λ j x h m. by-cases (decLe x 50) (λ l. l) 
+      small = λ j x h m. by-cases (decLe x 50) (λ l. l)
           (λ g. absurd (accepts-right (layoutChecks b) (entryChecks b) a _ (List·Memᴰ·head refl) (j, h, (x, m, omega arith))));
     }
 

@@ -143,7 +143,11 @@ pub fn bundle_refusal(bundle: &[u8]) -> u8
 pub fn table_count(bundle: &[u8]) -> usize
     ensures { λ r. ⌜ (r ≡ tableCount (now (bundle .entry))) × (r < 256) ⌝ }
 {
-    if bundle.len() < 2 { 0 } else { byte_at(bundle, 1) }
+    if bundle.len() < 2 {
+        0
+    } else {
+        byte_at(bundle, 1)
+    }
 }
 
 // The refusal, n, the row count and the place of table j.

@@ -58,7 +58,8 @@ short-header : answer (0 ∷ 1 ∷ 0 ∷ 0 ∷ 6 ∷ []) 0 ≡ 9
 unfolding answer
 short-header = refl
 
-seven-variables : answer (7 ∷ 1 ∷ 0 ∷ 0 ∷ 6 ∷ 0 ∷ []) 0 ≡ 1
+-- seven variables, and 4,097 rows too
+seven-variables : answer (7 ∷ 1 ∷ 1 ∷ 16 ∷ 6 ∷ 0 ∷ []) 0 ≡ 1
 unfolding answer
 seven-variables = refl
 
@@ -73,6 +74,11 @@ many-rows = refl
 wrong-offset : answer (1 ∷ 1 ∷ 2 ∷ 0 ∷ 7 ∷ 0 ∷ 5 ∷ []) 0 ≡ 10
 unfolding answer
 wrong-offset = refl
+
+-- an offset one too far, and a byte remains too
+offset-first : answer (1 ∷ 1 ∷ 0 ∷ 0 ∷ 7 ∷ 0 ∷ 5 ∷ []) 0 ≡ 10
+unfolding answer
+offset-first = refl
 
 passes-end : answer (1 ∷ 1 ∷ 2 ∷ 0 ∷ 6 ∷ 0 ∷ 5 ∷ []) 0 ≡ 11
 unfolding answer

@@ -1,11 +1,11 @@
 // The bundle reader: which table a number names, where its bytes stand, and which check refuses.
 ghost use mathlib.Core.Path.{_≡_};
 ghost use mathlib.Core.List.{_++_};
-ghost use Prim.Native.Nat.{ℕ, suc, _+_, _*_, _≤_, _<_};
+ghost use Prim.Native.Nat.{_+_, _*_, _≤_, _<_};
 ghost use lib.ListN.{length};
 ghost use Rattle.terms.specs.Refusals.{refusal};
-ghost use Rattle.bundle.specs.Format.{byteAt, number16, variablesOf, tableCount, headerLength, rowCount, placeOf};
-ghost use Rattle.bundle.specs.Checks.{frameChecks, tableChecksOf, tablesChecks, remainChecks, layoutChecks, bundleChecks, openChecks};
+ghost use Rattle.bundle.specs.Format.{byteAt, number16, variablesOf, tableCount, placeOf};
+ghost use Rattle.bundle.specs.Checks.{frameChecks, tableChecksOf, tablesChecks, remainChecks, layoutChecks, bundleChecks};
 ghost use Rattle.bundle.specs.Operation.{LocatePromise, FoundWithin, PartOf, OpenPromise};
 
 // The most bytes of a bundle, and the most tables.
@@ -192,7 +192,7 @@ pub struct OpenedTable<'a> {
 }
 
 // The part of a bundle that a found table is.
-fn part<'a>(bundle: &'a [u8], found: Located) -> &'a [u8]
+pub fn part<'a>(bundle: &'a [u8], found: Located) -> &'a [u8]
     requires { ⌜ FoundWithin (now bundle) found ⌝ }
     ensures { λ r. ⌜ PartOf (bundle .entry) (found .place) (found .rows * found .n) r ⌝ }
 {

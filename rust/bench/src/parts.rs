@@ -118,7 +118,7 @@ fn compare_finds(n: usize, table: &[u8], marks: &[u8], queries: &[u8]) {
     }
 }
 
-/// Marks of ascending and of unsorted rows.
+/// Marks of ascending and of unsorted rows. The plain program makes the same checks, or it would not know the order.
 pub fn marks() -> bool {
     head("marks", &["plain", "second"]);
     let mut kept = true;
@@ -151,7 +151,10 @@ fn one_marks(name: &str, n: usize, table: &[u8], limit: Limit) -> bool {
     let [ours, plain, naive] = &mut buffers;
     let mut jobs: Vec<Job> = vec![
         Box::new(|| rocaplanh::marks(n, hidden(table), ours).expect("a sound table")),
-        Box::new(|| baseline::division::ascending_marks(n, hidden(table), plain)),
+        Box::new(|| {
+            assert!(baseline::counting::is_valid(n, hidden(table)));
+            baseline::division::ascending_marks(n, table, plain);
+        }),
         Box::new(|| second::operations::marks(n, hidden(table), naive).expect("a sound table")),
     ];
     let times = side_by_side(&mut jobs);

@@ -10,9 +10,9 @@
 --   inside-passed, inside-length   what is known of inputs that passed
 use mathlib.Core.Path.{_≡_, refl, sym, ap, _∙_, subst}
 use mathlib.Core.Bool.{Bool, true, false}
-use mathlib.Core.List.{List, [], _∷_, _++_, List·Memᴰ·head, List·Memᴰ·cases-cons, List·Memᴰ·not-nil}
+use mathlib.Core.List.{List, [], _∷_, List·Memᴰ·head}
 use mathlib.Core.Option.{Option, none, some}
-use mathlib.Core.Logic.{⊎-elim, by-cases}
+use mathlib.Core.Logic.{by-cases}
 use Prim.Native.Nat.{ℕ, zero, suc, _+_, _*_, _≤_, _<_}
 use native.Mathlib.Nat.{not-suc-le-zero, le-of-suc-le-suc, div-self}
 use native.Mathlib.Numerals.{add-one}
@@ -21,10 +21,10 @@ use native.Mathlib.Omega.{arith}
 use lib.ListN.{length, drop, take, drop-of-length-le}
 use lib.Seq.{drop-cons, take-all}
 use Rattle.terms.specs.Tests.{Tests, pick, tests-as, tests-same}
-use Rattle.terms.specs.Monomials.{Monomial, Table, _!_, rowAt}
-use Rattle.terms.specs.Ideal.{Divides, Inside, dividesTest}
+use Rattle.terms.specs.Monomials.{Monomial, Table, rowAt}
+use Rattle.terms.specs.Ideal.{Divides, dividesTest}
 use Rattle.terms.specs.Rows.{rows, padded, asRow}
-use Rattle.terms.specs.Refusals.{Check, Accepts, refusal, tableChecks}
+use Rattle.terms.specs.Refusals.{refusal, tableChecks}
 use Rattle.terms.specs.declared.RowNumber.{RowNumber}
 use Rattle.terms.proofs.IdealLaws.{tests-divides}
 use Rattle.terms.proofs.RowsLaws.{length-rows, rows-at, padded-at, member-index}

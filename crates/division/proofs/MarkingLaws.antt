@@ -19,7 +19,7 @@ use Rattle.terms.specs.Tests.{pick, tests-as, tests-same, tests-true, tests-fal
 use Rattle.terms.specs.Monomials.{Monomial, Table, _!_, _∈_, rowAt, SameBefore}
 use Rattle.terms.specs.Order.{Precedes, Ascending}
 use Rattle.terms.specs.Rows.{rows}
-use Rattle.terms.specs.Refusals.{Accepts, refusal, tableChecks}
+use Rattle.terms.specs.Refusals.{refusal, tableChecks}
 use Rattle.terms.proofs.OrderLaws.{precedes-irreflexive}
 use Rattle.terms.proofs.RowsLaws.{member-at, member-index}
 use Rattle.terms.proofs.LoopLaws.{not-before}

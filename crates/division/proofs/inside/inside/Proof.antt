@@ -1,18 +1,12 @@
 -- The query is read as a row; what is found is the answer.
 use borrow.Author.Needs.{needs}
 use native.Mathlib.Omega.{arith}
-use borrow.Author.Tests.{le-ltb, lt-ltb, le-leb, lt-leb, eq-eqb, ne-eqb, ltb-true, ltb-false, leb-true, leb-false, eqb-true, eqb-false}
-use mathlib.Core.Path.{_≡_, refl, sym, ap, _∙_, subst}
-use mathlib.Core.Logic.{⊎-elim}
-use mathlib.Core.List.{List, [], _∷_, _++_}
-use mathlib.Core.Bool.{Bool, true, false}
-use Prim.Native.Nat.{ℕ, zero, suc, _+_, _*_, _-_, _/_, _%_, _≤_, _<_}
-use lib.ListN.{length, take, drop, getD, set, replicate}
+use mathlib.Core.Path.{sym, ap, _∙_, subst}
+use Prim.Native.Nat.{ℕ, _-_}
 use denote.Ref.{now}
-use Rattle.terms.proofs.RefusalLaws.{TableAccepted}
 use Rattle.division.specs.Inside.{InsidePromise}
 use Rattle.division.specs.declared.inside.InsideAnswer.the-variants.{Refused}
-use Rattle.division.proofs.InsideLaws.{inside-refuses, inside-passed, inside-length, one-row, inside-row, inside-nothing}
+use Rattle.division.proofs.InsideLaws.{inside-refuses, inside-passed, one-row, inside-row, inside-nothing}
 use Rattle.terms.specs.Rows.{rows}
 use Rattle.terms.specs.declared.Row.{Row}
 use Rattle.division.specs.Ranges.{foundRow}

@@ -2,6 +2,7 @@
 pub mod JanetLaws
 pub mod Cover
 pub mod MarksLaws
+pub mod OrderingLaws
 pub mod MarkingLaws
 pub mod NumberLaws
 pub mod DescentLaws
@@ -11,3 +12,4 @@ pub mod RangeLaws
 pub mod FindLaws
 pub mod SuccessorLaws
 pub mod CompleteLaws
+pub mod InsideLaws

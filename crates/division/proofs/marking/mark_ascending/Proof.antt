@@ -1,10 +1,9 @@
 -- From row k on the marks are written, and `marks` are those of row k.
 use borrow.Author.Needs.{needs}
 use native.Mathlib.Omega.{arith}
-use mathlib.Core.Path.{_≡_, refl, sym, ap, _∙_}
-use mathlib.Core.Logic.{inr}
-use Prim.Native.Nat.{ℕ, suc, _+_, _-_, _/_, _≤_, _<_}
-use lib.ListN.{length, drop, set, length-set}
+use mathlib.Core.Path.{_≡_, sym, ap, _∙_}
+use Prim.Native.Nat.{_-_, _/_, _<_}
+use lib.ListN.{length, set, length-set}
 use denote.Ref.{now}
 use Rattle.terms.specs.Monomials.{rowAt}
 use Rattle.terms.specs.Rows.{rows}

@@ -1,6 +1,6 @@
 -- The answers are small, so that each fits the number in which it is handed out.
 --
---   row-small       a row number that find gives is below 4,096
+--   row-small, inside-small   a row number that find or inside gives is below 4,096
 --   steps-small     steps are at most 256 for each variable
 --   steady-small    a steady degree is at most 300
 --   located-small   n, row count and place of an opened table are below 65,536
@@ -21,6 +21,13 @@ use Rattle.division.specs.declared.finding.FindAnswer.{FindAnswer}
 use Rattle.division.specs.declared.finding.FindAnswer.the-variants.{Row}
 use Rattle.terms.specs.declared.RowNumber.{RowNumber}
 use Rattle.terms.specs.declared.Degree.{Degree}
+use mathlib.Core.Option.{Option, none, some}
+use mathlib.Core.Path.{subst}
+use mathlib.Core.List.{Memᴰ·append-left}
+use Rattle.division.specs.Inside.{InsidePromise, DividesFirst, firstDivisor, insideChecks, insideRow, insideGives}
+use Rattle.division.specs.declared.inside.InsideAnswer.the-variants as inside
+use Rattle.division.proofs.InsideLaws.{inside-unique, inside-accepts, divides-first}
+use Rattle.terms.proofs.RefusalLaws.{table-accepted}
 use Rattle.division.proofs.FindLaws.{find-finds, find-steps, find-ready, find-length}
 use Rattle.counting.specs.Operations.{SteadyPromise, steadyChecks, steadyValue}
 use Rattle.counting.specs.declared.SteadyAnswer.the-variants as steady
@@ -99,3 +106,18 @@ located-small b j r p = by-cases (ℕ-discrete (refusal (openChecks b j)) 0)
       count = omega (arith, p .count, opened-not b j (rowCount b j) g);
       begins = omega (arith, p .begins, opened-not b j (placeOf b j) g);
     })
+
+-- ---- inside
+
+pub inside-small : (n : ℕ) (table query : List ℕ) (r : RowNumber) → InsidePromise n table query (inside.Row r) → r .0 < 4096
+inside-small n table query r p =
+    let z : refusal (insideChecks n table query) ≡ 0 = sym (p .number) in
+    let t = table-accepted n table (λ c m. accepted (insideChecks n table query) z c (Memᴰ·append-left _ m)) in
+    let d : DividesFirst (rows n table) query (insideRow (inside.Row r)) = subst (DividesFirst (rows n table) query)
+    (sym (ap insideRow (inside-unique p (inside-accepts n table query z)) ∙ gives (firstDivisor (rows n table) query)))
+    (divides-first (rows n table) query) in
+    omega (arith, d .within, t .limited)
+  where
+    gives : (o : Option ℕ) → insideRow (insideGives o) ≡ o
+    gives none = refl
+    gives (some r) = refl

@@ -1,12 +1,18 @@
 -- What the exported functions promise: the operation's own promise, with its answer as the numbers that C sees.
 --
---   rowOut, stepsOut ..   the numbers out for each case of an answer: 65,535 for no row, 0 beside a refusal
+--   insideOut, rowOut     the row number out for each case of an answer: 65,535 for no row, 0 beside a refusal
+--   MarksExport n table buffer number after, InsideExport n table query number row,
 --   FindExport n table query number row steps   some answer keeps the operation's promise, and the numbers are those of that answer
 --   CountExport, PolynomialExport, SteadyExport, OpenExport   likewise
 use mathlib.Core.Path.{_≡_}
 use mathlib.Core.List.{List}
 use Prim.Native.Nat.{ℕ}
 use lib.IntN.{ℤ}
+use Rattle.division.specs.Marking.{MarksPromise, marksNumber}
+use Rattle.division.specs.declared.marking.MarksAnswer.{MarksAnswer}
+use Rattle.division.specs.Inside.{InsidePromise, insideNumber}
+use Rattle.division.specs.declared.inside.InsideAnswer.{InsideAnswer}
+use Rattle.division.specs.declared.inside.InsideAnswer.the-variants as inside
 use Rattle.division.specs.Operations.{FindPromise, findNumber, findSteps}
 use Rattle.division.specs.declared.finding.FindAnswer.{FindAnswer}
 use Rattle.division.specs.declared.finding.FindAnswer.the-variants as find
@@ -16,6 +22,22 @@ use Rattle.counting.specs.declared.PolynomialAnswer.{PolynomialAnswer}
 use Rattle.counting.specs.declared.SteadyAnswer.{SteadyAnswer}
 use Rattle.bundle.specs.Operation.{LocatePromise}
 use Rattle.bundle.specs.declared.Located.{Located}
+
+pub record MarksExport (n : ℕ) (table buffer : List ℕ) (number : ℕ) (after : List ℕ) : Type 0 where
+  pub answer : MarksAnswer
+  pub promise : MarksPromise n table buffer answer after
+  pub returned : number ≡ marksNumber answer
+
+abbrev pub insideOut : InsideAnswer → ℕ
+insideOut (inside.Row r) = r .0
+insideOut inside.Nothing = 65535
+insideOut (inside.Refused m) = 0
+
+pub record InsideExport (n : ℕ) (table query : List ℕ) (number row : ℕ) : Type 0 where
+  pub answer : InsideAnswer
+  pub promise : InsidePromise n table query answer
+  pub returned : number ≡ insideNumber answer
+  pub found : row ≡ insideOut answer
 
 -- the row number, 65,535 for none
 abbrev pub rowOut : FindAnswer → ℕ

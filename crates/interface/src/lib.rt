@@ -10,11 +10,50 @@ use counting::polynomial;
 use counting::steady;
 use division::finding::FindAnswer;
 use division::finding::find;
+use division::inside::InsideAnswer;
+use division::inside::inside;
+use division::marking::MarksAnswer;
+use division::marking::marks;
 use terms::Degree;
-ghost use Rattle.interface.specs.Exports.{FindExport, CountExport, PolynomialExport, SteadyExport, OpenExport};
+ghost use Rattle.interface.specs.Exports.{MarksExport, InsideExport, FindExport, CountExport, PolynomialExport, SteadyExport, OpenExport};
 
 // What stands for 'no row'.
 pub const NO_ROW: u32 = 65535;
+
+// The marks of each row, a byte a row at the front of the lent buffer.
+#[no_mangle]
+pub extern "C" fn rocaplanh_marks(n: usize, table: &[u8], buffer: &mut [u8]) -> u32
+    ensures { λ r. ⌜ MarksExport n (now (table .entry)) (now (buffer .entry)) r (now (buffer .exit)) ⌝ }
+{
+    let answer = marks(n, table, buffer);
+    match answer {
+        MarksAnswer::Done => 0,
+        MarksAnswer::Refused(m) => m as u32,
+    }
+}
+
+// The first given row that divides the query, 65,535 for none.
+#[no_mangle]
+pub extern "C" fn rocaplanh_inside(n: usize, table: &[u8], query: &[u8], row: &mut u32) -> u32
+    ensures { λ r. ⌜ InsideExport n (now (table .entry)) (now (query .entry)) r (now (row .exit)) ⌝ }
+{
+    let answer = inside(n, table, query);
+    match answer {
+        InsideAnswer::Row(found) => {
+            let number = found.0;
+            *row = number as u32;
+            0
+        }
+        InsideAnswer::Nothing => {
+            *row = NO_ROW;
+            0
+        }
+        InsideAnswer::Refused(m) => {
+            *row = 0;
+            m as u32
+        }
+    }
+}
 
 // The row number of the query's Janet divisor, 65,535 for none, and the number of exponents stepped on.
 #[no_mangle]

@@ -1,6 +1,14 @@
--- What the code of marks needs, over plain lists and numbers.
+-- Laws of the operation marks.
 --
---   all-shifted            one shifted by the number of variables
+--   from, from-last, from-step, from-all, length-from   a buffer that is written from its last row on to the first
+--   none-marked            without rows nothing is written
+--   Written                a buffer in which the rows listed from a place on are marked
+--   last-listed, listed-marks, before-listed   the marks of the row at the last place, of the one before a place, and that it is not after it
+--   written-last, written-step, written-all    the turns of `mark_listed`
+--   marks-unique           two results that the promise allows are equal
+--   marks-accepts, marks-refuses   where no check refuses: the marks; where one does: its number, and the buffer as it was
+--   refuses-table, refuses-buffer, refuses-none   the number of the first check that refuses
+--   marks-passed, marks-room   what is known of inputs that passed
 use mathlib.Core.Path.{_≡_, refl, sym, ap, _∙_, subst}
 use mathlib.Core.Bool.{false}
 use mathlib.Core.List.{List, [], _∷_, _++_, List·Memᴰ·head}

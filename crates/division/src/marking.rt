@@ -1,8 +1,11 @@
 // Marks (rule 2): one byte for each row, at the front of a lent buffer. The rows may stand in any order.
 use crate::ordering::list_rows;
-use crate::successor::{marks_before, marks_by_next, marks_last};
-use terms::{ascends, table_refusal, RowNumber};
-
+use crate::successor::marks_before;
+use crate::successor::marks_by_next;
+use crate::successor::marks_last;
+use terms::RowNumber;
+use terms::ascends;
+use terms::table_refusal;
 ghost use mathlib.Core.Path.{_≡_};
 ghost use Prim.Native.Nat.{_≤_};
 ghost use lib.ListN.{length};

@@ -1,6 +1,5 @@
 // The marks of a row from those of the next in the order of rows (rule 2).
 use terms::RowNumber;
-
 ghost use mathlib.Core.Path.{_≡_};
 ghost use Prim.Native.Nat.{suc, _+_, _^_, _≤_, _<_};
 ghost use lib.ListN.{length};
@@ -20,7 +19,14 @@ pub fn marks_last(n: usize) -> u8
 }
 
 // The marks of a row from those of the next in the order of rows: where they first differ there is none, behind that all, before it the next row's.
-pub fn marks_by_next(table: &[u8], n: usize, all: u8, k: RowNumber, next: RowNumber, marks: u8) -> u8
+pub fn marks_by_next(
+    table: &[u8],
+    n: usize,
+    all: u8,
+    k: RowNumber,
+    next: RowNumber,
+    marks: u8,
+) -> u8
     requires { ⌜ (n ≤ 6) × (all + 1 ≡ 2 ^ n) × (k .0 < length (rows n (now table))) × (next .0 < length (rows n (now table))) × NotAfter (rowAt (rows n (now table)) (k .0)) (rowAt (rows n (now table)) (next .0)) ⌝ }
     ensures { λ r. ⌜ NextMarks n (rowAt (rows n (now (table .entry))) (k .0)) (rowAt (rows n (now (table .entry))) (next .0)) marks r ⌝ }
 {

@@ -15,7 +15,7 @@ use Rattle.division.proofs.marking.mark_ascending.Statement.{statement}
 use Rattle.division.proofs.marking.mark_ascending.Tie as tie
 
 abbrev Inv-loop : tie.InvT-loop
-Inv-loop n table buffer₀ count k₀ marks₀ buffer k marks = 
+Inv-loop n table buffer₀ count k₀ marks₀ buffer k marks =
     (k < count) × (marks ≡ marksOf n (rows n table) (rowAt (rows n table) k)) × (buffer ≡ from buffer₀ (tableMarks n (rows n table)) k count)
 
 abbrev μ-loop : tie.MeasureT-loop

@@ -14,7 +14,7 @@ use Rattle.division.proofs.marking.mark_listed.Statement.{statement}
 use Rattle.division.proofs.marking.mark_listed.Tie as tie
 
 abbrev Inv-loop : tie.InvT-loop
-Inv-loop n table order buffer₀ count all k₀ marks₀ row₀ buffer k marks row = 
+Inv-loop n table order buffer₀ count all k₀ marks₀ row₀ buffer k marks row =
     (k < count) × (row ≡ getD order k 0) × (marks ≡ marksOf n (rows n table) (listed (rows n table) order k)) × Written n (rows n table) order buffer₀ k buffer
 
 abbrev μ-loop : tie.MeasureT-loop

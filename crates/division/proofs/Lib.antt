@@ -3,6 +3,7 @@ pub mod JanetLaws
 pub mod Cover
 pub mod MarksLaws
 pub mod OrderingLaws
+pub mod SuccessorLaws
 pub mod MarkingLaws
 pub mod NumberLaws
 pub mod DescentLaws
@@ -10,6 +11,5 @@ pub mod Facade
 pub mod Examples
 pub mod RangeLaws
 pub mod FindLaws
-pub mod SuccessorLaws
 pub mod CompleteLaws
 pub mod InsideLaws

@@ -1,133 +1,44 @@
--- What the code of marks needs, over plain lists and numbers.
+-- Laws of the operation marks.
 --
---   all-shifted            one shifted by the number of variables
+--   from, from-last, from-step, from-all, length-from   a buffer that is written from its last row on to the first
+--   none-marked            without rows nothing is written
+--   Written                a buffer in which the rows listed from a place on are marked
+--   last-listed, listed-marks, before-listed   the marks of the row at the last place, of the one before a place, and that it is not after it
+--   written-last, written-step, written-all    the turns of `mark_listed`
+--   marks-unique           two results that the promise allows are equal
+--   marks-accepts, marks-refuses   where no check refuses: the marks; where one does: its number, and the buffer as it was
+--   refuses-table, refuses-buffer, refuses-none   the number of the first check that refuses
+--   marks-passed, marks-room   what is known of inputs that passed
 use mathlib.Core.Path.{_≡_, refl, sym, ap, _∙_, subst}
-use mathlib.Core.Bool.{Bool, true, false}
+use mathlib.Core.Bool.{false}
 use mathlib.Core.List.{List, [], _∷_, _++_, List·Memᴰ·head}
-use mathlib.Core.Logic.{_⊎_, inl, inr, ⊎-elim, by-cases}
-use Prim.Native.Nat.{ℕ, zero, suc, _+_, _*_, _-_, _%_, _^_, _≤_, _<_}
-use native.Mathlib.Nat.{not-suc-le-zero, eq-or-lt-of-le, le-of-suc-le-suc, two-pow-succ, mod-eq-of-lt, mod-lt}
+use mathlib.Core.Logic.{_⊎_, inl, ⊎-elim, by-cases}
+use Prim.Native.Nat.{ℕ, zero, suc, _+_, _-_, _^_, _≤_, _<_}
+use native.Mathlib.Nat.{not-suc-le-zero, eq-or-lt-of-le}
 use native.Mathlib.Decide.{decLe, decLt, ℕ-discrete}
 use native.Mathlib.Omega.{arith}
-use lib.Bits.{bitAnd, and-mask}
 use lib.Dec.{eqb}
-use lib.Pow.{pow-mono, pow-pos}
 use lib.ListN.{length, take, drop, getD, set, length-set, length-append, length-drop, drop-of-length-le, List·getD-append}
 use lib.Seq.{drop-cons, set-split, set-at, take-suc, append-snoc, length-take-le, take-set-le, drop-set-lt}
 use lib.Seq.{getD-set-same, getD-set-other, getD-append-add, getD-drop, ext-getD}
-use Rattle.terms.specs.Tests.{pick, tests-as, tests-same, tests-true, tests-false, tests-eq}
-use Rattle.terms.specs.Monomials.{Monomial, Table, _!_, _∈_, rowAt, SameBefore}
-use Rattle.terms.specs.Order.{Precedes, Ascending}
+use Rattle.terms.specs.Tests.{pick, tests-false, tests-eq}
+use Rattle.terms.specs.Monomials.{Monomial, Table, _∈_, rowAt}
+use Rattle.terms.specs.Order.{Precedes}
 use Rattle.terms.specs.Rows.{rows}
 use Rattle.terms.specs.Refusals.{refusal, tableChecks}
-use Rattle.terms.proofs.OrderLaws.{precedes-irreflexive}
 use Rattle.terms.proofs.RowsLaws.{member-at, member-index}
-use Rattle.terms.proofs.LoopLaws.{not-before}
 use Rattle.terms.proofs.RefusalLaws.{accepted, refusal-holds, refusal-passes, refusal-append, refusal-first, TableAccepted, table-accepted}
-use Rattle.division.specs.Janet.{multiplicativeTest, marksByte, marksOf, tableMarks}
+use Rattle.division.specs.Janet.{marksOf, tableMarks}
 use Rattle.division.specs.Ordering.{NotAfter, listed, Listing}
-use Rattle.division.specs.Marking.{bufferCheck, marksChecks, marked, marksNumber, marksCase, marksAnswer, marksBuffer, MarksPromise, Differing, NextMarks}
+use Rattle.division.specs.Marking.{bufferCheck, marksChecks, marked, marksNumber, marksCase, marksAnswer, marksBuffer, MarksPromise}
+use Rattle.division.specs.Successor.{NextMarks}
 use Rattle.division.specs.declared.marking.MarksAnswer.{MarksAnswer}
 use Rattle.division.specs.declared.marking.MarksAnswer.the-variants.{Done, Refused}
-use Rattle.division.proofs.JanetLaws.{tests-multiplicative, multiplicative-same}
-use Rattle.division.proofs.MarksLaws.{marks-all, marks-mod, marks-same, marks-behind, tableMarks-at, length-tableMarks, marks-successor}
+use Rattle.division.proofs.MarksLaws.{tableMarks-at, length-tableMarks, marks-highest}
 use Rattle.division.proofs.OrderingLaws.{not-after-none}
-
--- ---- all_marks, marks_by_next
-
-pub power-small : (n : ℕ) → n ≤ 6 → 2 ^ n ≤ 64
-power-small n h = pow-mono {i = n} {j = 6} h
-
-pub all-shifted : (n : ℕ) → n ≤ 6 → 1 * 2 ^ n % 256 ≡ 2 ^ n
-all-shifted n h =
-    let e : 1 * 2 ^ n ≡ 2 ^ n = omega arith in
-    ap (λ (x : ℕ). x % 256) e ∙ mod-eq-of-lt (omega (arith, power-small n h))
-
--- the power of a variable before the last, doubled, is at most that of n
-pub power-double : (n i : ℕ) → i < n → n ≤ 6 → (2 * 2 ^ i ≤ 2 ^ n) × (2 ^ n ≤ 64)
-power-double n i l h = (omega (arith, two-pow-succ i, pow-mono {i = suc i} {j = n} l), power-small n h)
-
--- what the code computes of the next row's marks m at the variable suc i
-pub stepped-marks : (n i m all p : ℕ) → i < n → p ≡ 2 ^ i → all + 1 ≡ 2 ^ n → bitAnd m (p - 1) + (all + 1 - 2 * p) + 2 ^ suc i ≡ m % 2 ^ i + 2 ^ n
-stepped-marks n i m all p l e f =
-    let b : bitAnd m (p - 1) ≡ m % 2 ^ i = ap (λ (x : ℕ). bitAnd m (x - 1)) e ∙ and-mask m i in
-    omega (arith, two-pow-succ i, pow-mono {i = suc i} {j = n} l)
-
-pub stepped-small : (n i m all p : ℕ) → i < n → n ≤ 6 → p ≡ 2 ^ i → all + 1 ≡ 2 ^ n → bitAnd m (p - 1) + (all + 1 - 2 * p) < 64
-stepped-small n i m all p l h e f =
-    omega (arith, stepped-marks n i m all p l e f, mod-lt m (pow-pos i), two-pow-succ i, pow-mono {i = suc i} {j = n} l, power-small n h)
-
--- at the first difference the row that is not after the other is the smaller
-pub differs-less : (u w : Monomial) (i : ℕ) → NotAfter u w → ((j : ℕ) → j ≤ i → u ! j ≡ w ! j) → (u ! suc i ≡ w ! suc i → ⊥) → u ! suc i < w ! suc i
-differs-less u w i (inl e) same g = absurd (g (ap (λ (x : Monomial). x ! suc i) e))
-differs-less u w i (inr p) same g = by-cases (decLt (u ! suc i) (w ! suc i)) (λ l. l) (λ o. absurd (not-before u w i same (omega (arith, g)) p))
-
-pub first-differing : (n : ℕ) (u w : Monomial) (m all p i : ℕ) → i < n → p ≡ 2 ^ i → all + 1 ≡ 2 ^ n → ((j : ℕ) → j ≤ i → u ! j ≡ w ! j)
-    → u ! suc i < w ! suc i → Differing n u w m (bitAnd m (p - 1) + (all + 1 - 2 * p)) i
-first-differing n u w m all p i l e f same h =
-    record { variable = l; same = λ j t. same j (le-of-suc-le-suc t); less = h; marks = stepped-marks n i m all p l e f }
-
--- ---- the marks of a row by the next row, in a table in any order
-
--- A row v of u's group at i that is above u there comes after u. So where no row comes after u, it has all marks. Where w is the next row in the
--- order of rows and they differ first at k: behind k the row v equals u at k, so it comes before w, but no row stands between u and w. At k the row
--- w is in u's group and above it. Before k the groups of u and w are the same, and so are their exponents.
-module _ (n : ℕ) (G : Table) where
-  pub marks-highest : (u : Monomial) → ((v : Monomial) → v ∈ G → Precedes u v → ⊥) → marksOf n G u + 1 ≡ 2 ^ n
-  unfolding marksOf
-  marks-highest u none = marks-all n (multiplicativeTest G u) (λ i p l. sym (tests-true (tests-multiplicative G u i) (λ v g.
-      by-cases (decLe (v ! i) (u ! i)) (λ o. o) (λ o.
-      absurd (none v (g .member) (record { at = i; same = λ j t. sym (g .same j t); less = omega arith }))))))
-
-  module _ (u w : Monomial) (member : w ∈ G) (none : (v : Monomial) → v ∈ G → Precedes u v → Precedes v w → ⊥) where
-    pub marks-next : (j : ℕ) → j < n → SameBefore (suc j) u w → u ! suc j < w ! suc j → marksOf n G u + 2 ^ suc j ≡ marksOf n G w % 2 ^ j + 2 ^ n
-    unfolding marksOf
-    marks-next j h s p =
-        let f : ℕ → Bool = multiplicativeTest G u in
-        let g : ℕ → Bool = multiplicativeTest G w in
-        let e : marksByte n g % 2 ^ j ≡ marksByte j f = marks-mod g n j (omega arith) ∙ sym (marks-same j f g before) in
-        omega (arith, marks-behind n j f h at-none behind)
-      where
-        behind : (i : ℕ) → suc j < i → i ≤ n → multiplicativeTest G u i ≡ true
-        behind i l b = sym (tests-true (tests-multiplicative G u i) (λ v g.
-            by-cases (decLe (v ! i) (u ! i)) (λ o. o) (λ o. absurd (none v (g .member)
-            (record { at = i; same = λ m t. sym (g .same m t); less = omega arith })
-            (record { at = suc j; same = λ m t. g .same m (omega arith) ∙ s m t; less = omega (arith, g .same (suc j) l) })))))
-
-        at-none : multiplicativeTest G u (suc j) ≡ false
-        at-none = sym (tests-false (tests-multiplicative G u (suc j)) (λ m.
-            omega (arith, m w (record { member = member; same = λ t l. sym (s t l) }))))
-
-        before : (i : ℕ) → 0 < i → i ≤ j → multiplicativeTest G u i ≡ multiplicativeTest G w i
-        before i o l = tests-same (multiplicativeTest G u i) (multiplicativeTest G w i)
-            (tests-multiplicative G u i)
-            (tests-as (tests-multiplicative G w i)
-            (multiplicative-same G w u i (λ t b. sym (s t (omega arith))) (sym (s i (omega arith))))
-            (multiplicative-same G u w i (λ t b. s t (omega arith)) (s i (omega arith))))
-
-    -- so what the code computes are the marks
-    pub next-marks : (r : ℕ) → NextMarks n u w (marksOf n G w) r → r ≡ marksOf n G u
-    next-marks r (inl e) = e .1 ∙ ap (marksOf n G) (sym (e .0))
-    next-marks r (inr d) = omega (arith, d .1 .marks, marks-next (d .0) (d .1 .variable) (d .1 .same) (d .1 .less))
+use Rattle.division.proofs.SuccessorLaws.{next-marks}
 
 -- ---- mark_ascending
-
-module _ (n : ℕ) (G : Table) (a : Ascending G) where
-  -- so what the code computes from the marks of the successor are the marks
-  pub successor-marks : (k r : ℕ) → suc k < length G → NextMarks n (rowAt G k) (rowAt G (suc k)) (marksOf n G (rowAt G (suc k))) r → r ≡ marksOf n G (rowAt G k)
-  successor-marks k r l (inl e) = absurd (precedes-irreflexive (rowAt G (suc k)) (subst (λ (x : Monomial). Precedes x (rowAt G (suc k))) (e .0) (a k l)))
-  successor-marks k r l (inr d) = omega (arith, d .1 .marks, marks-successor n G a k l (d .0) (d .1 .variable) (d .1 .same) (d .1 .less))
-
-  pub before-marks : (k r m : ℕ) → 0 < k → k < length G → m ≡ marksOf n G (rowAt G k) → NextMarks n (rowAt G (k - 1)) (rowAt G k) m r → r ≡ marksOf n G (rowAt G (k - 1))
-  before-marks k r m p l e d =
-      let x : k ≡ suc (k - 1) = omega arith in
-      let b : NextMarks n (rowAt G (k - 1)) (rowAt G k) (marksOf n G (rowAt G k)) r = subst (λ (y : ℕ). NextMarks n (rowAt G (k - 1)) (rowAt G k) y r) e d in
-      successor-marks (k - 1) r (omega arith) (subst (λ (y : ℕ). NextMarks n (rowAt G (k - 1)) (rowAt G y) (marksOf n G (rowAt G y)) r) x b)
-
-  pub before-next : (k : ℕ) → 0 < k → k < length G → NotAfter (rowAt G (k - 1)) (rowAt G k)
-  before-next k p l =
-      let x : suc (k - 1) ≡ k = omega arith in
-      inr (subst (λ (y : ℕ). Precedes (rowAt G (k - 1)) (rowAt G y)) x (a (k - 1) (omega arith)))
 
 -- a buffer whose bytes from k on, before R, are those of M
 abbrev pub from : List ℕ → List ℕ → ℕ → ℕ → List ℕ

@@ -2,6 +2,7 @@
 pub mod Cones
 pub mod Janet
 pub mod Ordering
+pub mod Successor
 pub mod Marking
 pub mod Scan
 pub mod Descent

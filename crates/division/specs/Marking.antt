@@ -2,20 +2,19 @@
 --
 --   BufferShort n table size   8: the buffer, of that size, is shorter than the rows
 --   marksChecks n table size   the checks in order: 1 to 4 of the table, 8
+--   Markable n G size     what is known once they pass
 --   marked n G buffer     the buffer with the marks of G's rows at its front; the bytes behind stay
 --   marksNumber      the paper's number of an answer, 0 for none
 --   marksAnswer n table size   the answer: done, or the refusal
 --   marksBuffer n table buffer the buffer after it: marked, or on refusal as it was
 --   MarksPromise n table buffer answer after   the promise
---   Differing, NextMarks   the marks of a row from those of the next in the order of rows
 use mathlib.Core.Path.{_≡_}
 use mathlib.Core.List.{List, [], _∷_, _++_}
-use mathlib.Core.Logic.{_⊎_}
-use Prim.Native.Nat.{ℕ, zero, suc, _+_, _%_, _^_, _<_}
+use Prim.Native.Nat.{ℕ, zero, suc, _≤_, _<_}
 use lib.Dec.{ltb, eqb, lit<}
 use lib.ListN.{length, drop}
 use Rattle.terms.specs.Tests.{Tests, pick, tests-lt}
-use Rattle.terms.specs.Monomials.{Monomial, Table, _!_, SameBefore}
+use Rattle.terms.specs.Monomials.{Table}
 use Rattle.terms.specs.Rows.{rows}
 use Rattle.terms.specs.Refusals.{Check, refusal, check, tableChecks}
 use Rattle.division.specs.Janet.{tableMarks}
@@ -35,6 +34,13 @@ bufferCheck n table size = check 8 (lit< tt) (tests-bufferShort n table size)
 
 abbrev pub marksChecks : ℕ → List ℕ → ℕ → List Check
 marksChecks n table size = tableChecks n table ++ (bufferCheck n table size ∷ [])
+
+-- what is known once they pass, of a table G and a buffer of that size
+pub record Markable (n : ℕ) (G : Table) (size : ℕ) : Type 0 where
+  pub some : 0 < n
+  pub few : n ≤ 6
+  pub limited : length G ≤ 4096
+  pub room : length G ≤ size
 
 -- ---- the answer and the buffer
 
@@ -62,16 +68,3 @@ pub record MarksPromise (n : ℕ) (table buffer : List ℕ) (answer : MarksAnswe
   pub number : marksNumber answer ≡ refusal (marksChecks n table (length buffer))
   pub answers : answer ≡ marksAnswer n table (length buffer)
   pub writes : after ≡ marksBuffer n table buffer
-
--- ---- the marks of a row by the next
-
--- u and w differ first at variable suc j: all marks behind it, none at it, and those of m before it
-pub record Differing (n : ℕ) (u w : Monomial) (m r j : ℕ) : Type 0 where
-  pub variable : j < n
-  pub same : SameBefore (suc j) u w
-  pub less : u ! suc j < w ! suc j
-  pub marks : r + 2 ^ suc j ≡ m % 2 ^ j + 2 ^ n
-
--- r is made of the marks m of w, the next row: they are the same row, or they differ
-abbrev pub NextMarks : ℕ → Monomial → Monomial → ℕ → ℕ → Type 0
-NextMarks n u w m r = ((u ≡ w) × (r ≡ m)) ⊎ ((j : ℕ) × Differing n u w m r j)

@@ -1,7 +1,9 @@
 // Inside (rule 1): the first given row that divides a query.
 use crate::finding::Found;
-use terms::{row_at, table_refusal, Row, RowNumber};
-
+use terms::Row;
+use terms::RowNumber;
+use terms::row_at;
+use terms::table_refusal;
 ghost use mathlib.Core.Path.{_≡_};
 ghost use Prim.Native.Nat.{_≤_, _<_};
 ghost use lib.ListN.{length};

@@ -3,5 +3,5 @@ pub mod completeness;
 pub mod finding;
 pub mod inside;
 pub mod marking;
-pub mod successor;
 pub mod ordering;
+pub mod successor;

@@ -14,7 +14,7 @@ use Rattle.division.proofs.marking.mark_listed.Statement.{statement}
 use Rattle.division.proofs.marking.mark_listed.Tie as tie
 
 abbrev Inv-loop : tie.InvT-loop
-Inv-loop n table order buffer₀ count all k₀ marks₀ row₀ buffer k marks row = 
+Inv-loop n table order buffer₀ count all k₀ marks₀ row₀ buffer k marks row =
     (k < count) × (row ≡ getD order k 0) × (marks ≡ marksOf n (rows n table) (listed (rows n table) order k)) × Written n (rows n table) order buffer₀ k buffer
 
 abbrev μ-loop : tie.MeasureT-loop
@@ -32,8 +32,8 @@ returns c =
     let e : length G ≡ 0 = omega arith in
     sym (none-marked (a .n) G (a .buffer .now) e)
 
-all-marks-requires : tie.Need-all-marks-requires Inv-loop μ-loop
-all-marks-requires c κs = search needs
+marks-last-requires : tie.Need-marks-last-requires Inv-loop μ-loop
+marks-last-requires c κs = search needs
 
 sub-k : tie.Need-sub-k Inv-loop μ-loop
 sub-k c = search needs
@@ -61,7 +61,7 @@ slice-write-buffer c =
     let G = rows (a .n) (a .table .now) in
     let z = length-rows (a .n) (a .table .now) in
     let k = length (a .table .now) / a .n - 1 in
-    omega (arith, s .pre .4 .numbers k (omega arith))
+    omega (arith, s .pre .2 .numbers k (omega arith))
 
 loop-holds : tie.Need-loop-holds Inv-loop μ-loop
 loop-holds c =
@@ -70,8 +70,8 @@ loop-holds c =
     let G = rows (a .n) (a .table .now) in
     let z = length-rows (a .n) (a .table .now) in
     let k = length (a .table .now) / a .n - 1 in
-    let m = last-listed (a .n) G (a .order .now) (s .pre .4) k (c .before .all-marks .result) (omega arith) (c .before .all-marks .ensures) in
-    (omega arith, refl, m, written-last (a .n) G (a .order .now) (s .pre .4) (a .buffer .now) k (c .before .all-marks .result) (omega arith) (s .pre .3) m)
+    let m = last-listed (a .n) G (a .order .now) (s .pre .2) k (c .before .marks-last .result) (omega arith) (c .before .marks-last .ensures) in
+    (omega arith, refl, m, written-last (a .n) G (a .order .now) (s .pre .2) (a .buffer .now) k (c .before .marks-last .result) (omega arith) (s .pre .0 .room) m)
 
 sub-row : tie.Need-sub-row Inv-loop μ-loop
 sub-row c = search needs
@@ -101,9 +101,9 @@ marks-by-next-requires c κs =
     let G = rows (a .n) (a .table .now) in
     let z = length-rows (a .n) (a .table .now) in
     let l = c .before .before .loop in
-    let o = s .pre .4 .numbers (l .k) (omega arith) in
-    let b = before-listed (a .n) G (a .order .now) (s .pre .4) (l .k) (omega arith) (omega arith) in
-    (s .pre .1, c .before .before .before .before .all-marks .ensures, s .pre .4 .numbers (l .k - 1) (omega arith), omega arith, rw (l .inv .1) b)
+    let o = s .pre .2 .numbers (l .k) (omega arith) in
+    let b = before-listed (a .n) G (a .order .now) (s .pre .2) (l .k) (omega arith) (omega arith) in
+    (s .pre .0 .few, c .before .before .before .before .marks-last .ensures, s .pre .2 .numbers (l .k - 1) (omega arith), omega arith, rw (l .inv .1) b)
 
 slice-write-buffer-2 : tie.Need-slice-write-buffer-2 Inv-loop μ-loop
 slice-write-buffer-2 c =
@@ -113,9 +113,9 @@ slice-write-buffer-2 c =
     let z = length-rows (a .n) (a .table .now) in
     let l = c .before .before .before .loop in
     let k = length (a .table .now) / a .n - 1 in
-    let b = set (a .buffer .now) (getD (a .order .now) k 0) (c .before .before .before .before .before .all-marks .result) in
-    let h = length-set (a .buffer .now) (getD (a .order .now) k 0) (c .before .before .before .before .before .all-marks .result) in
-    omega (arith, l .inv .3 .size, s .pre .4 .numbers (l .k - 1) (omega arith))
+    let b = set (a .buffer .now) (getD (a .order .now) k 0) (c .before .before .before .before .before .marks-last .result) in
+    let h = length-set (a .buffer .now) (getD (a .order .now) k 0) (c .before .before .before .before .before .marks-last .result) in
+    omega (arith, l .inv .3 .size, s .pre .2 .numbers (l .k - 1) (omega arith))
 
 sub-k-2 : tie.Need-sub-k-2 Inv-loop μ-loop
 sub-k-2 c = search needs
@@ -131,11 +131,11 @@ loop-again c =
     let z = length-rows (a .n) (a .table .now) in
     let l = c .before .before .before .loop in
     let k = length (a .table .now) / a .n - 1 in
-    let b = set (a .buffer .now) (getD (a .order .now) k 0) (c .before .before .before .before .before .all-marks .result) in
-    let h = length-set (a .buffer .now) (getD (a .order .now) k 0) (c .before .before .before .before .before .all-marks .result) in
+    let b = set (a .buffer .now) (getD (a .order .now) k 0) (c .before .before .before .before .before .marks-last .result) in
+    let h = length-set (a .buffer .now) (getD (a .order .now) k 0) (c .before .before .before .before .before .marks-last .result) in
     let d = rw (l .inv .1) at (c .marks-by-next .ensures) in
-    let m = listed-marks (a .n) G (a .order .now) (s .pre .4) (l .k) (omega arith) (omega arith) (l .marks) (c .marks-by-next .result) (l .inv .2) d in
-    (omega arith, refl, m, written-step (a .n) G (a .order .now) (s .pre .4) (l .k) (omega arith) (omega arith) b (l .buffer) (c .marks-by-next .result) (omega arith) m (l .inv .3))
+    let m = listed-marks (a .n) G (a .order .now) (s .pre .2) (l .k) (omega arith) (omega arith) (l .marks) (c .marks-by-next .result) (l .inv .2) d in
+    (omega arith, refl, m, written-step (a .n) G (a .order .now) (s .pre .2) (l .k) (omega arith) (omega arith) b (l .buffer) (c .marks-by-next .result) (omega arith) m (l .inv .3))
 
 same-length : tie.Need-same-length Inv-loop μ-loop
 same-length c =
@@ -145,8 +145,8 @@ same-length c =
     let z = length-rows (a .n) (a .table .now) in
     let l = c .before .loop in
     let k = length (a .table .now) / a .n - 1 in
-    let b = set (a .buffer .now) (getD (a .order .now) k 0) (c .before .before .before .all-marks .result) in
-    let h = length-set (a .buffer .now) (getD (a .order .now) k 0) (c .before .before .before .all-marks .result) in
+    let b = set (a .buffer .now) (getD (a .order .now) k 0) (c .before .before .before .marks-last .result) in
+    let h = length-set (a .buffer .now) (getD (a .order .now) k 0) (c .before .before .before .marks-last .result) in
     l .inv .3 .size ∙ h
 
 returns-2 : tie.Need-returns-2 Inv-loop μ-loop
@@ -157,7 +157,7 @@ returns-2 c =
     let z = length-rows (a .n) (a .table .now) in
     let l = c .before .loop in
     let k = length (a .table .now) / a .n - 1 in
-    written-all (a .n) G (a .order .now) (s .pre .4) (a .buffer .now) (l .buffer) (l .k) (getD (a .order .now) k 0) (c .before .before .before .all-marks .result) (omega arith) (s .pre .4 .numbers k (omega arith)) (s .pre .3) (l .inv .3)
+    written-all (a .n) G (a .order .now) (s .pre .2) (a .buffer .now) (l .buffer) (l .k) (getD (a .order .now) k 0) (c .before .before .before .marks-last .result) (omega arith) (s .pre .2 .numbers k (omega arith)) (s .pre .0 .room) (l .inv .3)
 
 pub mark-listed-spec : {M : Type 1} → statement M
 mark-listed-spec =
@@ -167,7 +167,7 @@ mark-listed-spec =
     μ-loop
     div-count
     returns
-    all-marks-requires
+    marks-last-requires
     sub-k
     mul-row
     shared-slice-read-row

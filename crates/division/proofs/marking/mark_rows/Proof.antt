@@ -16,7 +16,7 @@ mark-ascending-requires : tie.Need-mark-ascending-requires
 mark-ascending-requires c κs =
     let s = c .before .before .before .before .before in
     let a = s .args in
-    (s .pre .0, s .pre .1, true-tests (tests-ascending (rows (a .n) (a .table .now))) (sym (c .before .before .ascends .ensures) ∙ c .before .if1 .taken), s .pre .3)
+    (s .pre, true-tests (tests-ascending (rows (a .n) (a .table .now))) (sym (c .before .before .ascends .ensures) ∙ c .before .if1 .taken))
 
 mark-unordered-requires : tie.Need-mark-unordered-requires
 mark-unordered-requires c κs = search needs

@@ -23,7 +23,7 @@ mark-rows-requires c κs =
     let a = c .before .before .before .before .before .args in
     let e = sym (c .before .before .marks-refusal .ensures) ∙ c .before .if1 .left in
     let p = marks-passed (a .n) (a .table .now) (length (a .buffer .now)) e in
-    (p .some, p .few, p .limited, marks-room (a .n) (a .table .now) (length (a .buffer .now)) e)
+    record { some = p .some; few = p .few; limited = p .limited; room = marks-room (a .n) (a .table .now) (length (a .buffer .now)) e }
 
 same-length : tie.Need-same-length
 same-length c = search needs

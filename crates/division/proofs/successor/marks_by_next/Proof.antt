@@ -13,9 +13,9 @@ use Rattle.terms.specs.Rows.{rows}
 use Rattle.terms.proofs.RowsLaws.{row-within, entry-at, row-size}
 use Rattle.terms.proofs.MonomialLaws.{upto-next, upto-zero}
 use Rattle.terms.proofs.LoopLaws.{never-differs}
-use Rattle.division.proofs.MarkingLaws.{power-small, power-double, stepped-small, differs-less, first-differing}
-use Rattle.division.proofs.marking.marks_by_next.Statement.{statement}
-use Rattle.division.proofs.marking.marks_by_next.Tie as tie
+use Rattle.division.proofs.SuccessorLaws.{power-small, power-double, stepped-small, differs-less, first-differing}
+use Rattle.division.proofs.successor.marks_by_next.Statement.{statement}
+use Rattle.division.proofs.successor.marks_by_next.Tie as tie
 
 abbrev Inv-loop : tie.InvT-loop
 Inv-loop table n all marks number following base other power₀ i₀ power i =

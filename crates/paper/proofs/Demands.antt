@@ -5,7 +5,7 @@
 use mathlib.Core.Path.{_≡_, refl, sym, ap, _∙_, subst}
 use mathlib.Core.List.{List, [], _∷_, _++_, List·Memᴰ·head, List·Memᴰ·tail, Memᴰ·append-left}
 use mathlib.Core.Logic.{by-cases, _↔_}
-use Prim.Native.Nat.{ℕ, _+_, _*_, _/_, _≤_, _<_}
+use Prim.Native.Nat.{ℕ, _+_, _*_, _/_, _%_, _^_, _≤_, _<_}
 use native.Mathlib.Nat.{le-trans, min-le-left}
 use native.Mathlib.Decide.{decLt}
 use native.Mathlib.Omega.{arith}
@@ -38,7 +38,16 @@ use Rattle.division.specs.Scan.{scan}
 use Rattle.division.specs.declared.finding.FindAnswer.{FindAnswer}
 use Rattle.division.proofs.JanetLaws.{janet-disjoint, ascending-distinct}
 use Rattle.division.proofs.DescentLaws.{scan-finds, answers-first, answers-unique}
-use Rattle.paper.specs.Demands.{Settled, DemandOne, DemandTwo, DemandThree, Completion, OneDivisor}
+use Rattle.terms.specs.Tests.{tests-eq}
+use Rattle.terms.specs.Monomials.{rowAt}
+use Rattle.division.specs.Janet.{marksOf, tableMarks}
+use Rattle.division.specs.Marking.{MarksPromise, marksNumber}
+use Rattle.division.specs.declared.marking.MarksAnswer.{MarksAnswer}
+use Rattle.division.proofs.MarksLaws.{tests-marks, tableMarks-at, length-tableMarks, marksOf-below}
+use Rattle.division.proofs.MarkingLaws.{marks-unique, marks-accepts, marks-refuses}
+use lib.ListN.{getD, List·getD-append}
+use lib.Seq.{drop-at}
+use Rattle.paper.specs.Demands.{Settled, DemandOne, DemandTwo, DemandThree, Completion, Marking, OneDivisor}
 use Rattle.paper.proofs.EndToEnd.{count-ideal, flat-accepted, completed-below, rows-below}
 
 -- ---- the first demand
@@ -67,8 +76,13 @@ complete-leaves : (n : ℕ) (table buffer : List ℕ) (answer : CompleteAnswer) 
     → 0 < completeNumber answer → after ≡ buffer
 complete-leaves n table buffer answer after p l = complete-unique p (complete-refuses n table buffer (omega (arith, p .number))) .1
 
+marks-leaves : (n : ℕ) (table buffer : List ℕ) (answer : MarksAnswer) (after : List ℕ) → MarksPromise n table buffer answer after → 0 < marksNumber answer → after ≡ buffer
+marks-leaves n table buffer answer after p l = marks-unique p (marks-refuses n table buffer (marksNumber answer) l (p .number)) .1
+
 pub demand-one : DemandOne
 demand-one = record {
+  marks = λ n table buffer answer after p. (settled _ _ (p .number), marks-leaves n table buffer answer after p);
+  inside = λ n table query answer p. settled _ _ (p .number);
   complete = λ n table buffer answer after p.
       (settled (completeChecks n table (length buffer)) (completeNumber answer) (p .number), complete-leaves n table buffer answer after p);
   find = λ n table query answer p. settled (findChecks n table query) (findNumber answer) (p .number);
@@ -104,8 +118,30 @@ room-decides n table buffer answer after p a H is =
       λ l. p .number ∙ no-room n table (length buffer) a (omega arith),
     )
 
+-- the byte of row r is the row's marks, and its bits say where it is multiplicative
+marking-of : (n : ℕ) (table buffer : List ℕ) (answer : MarksAnswer) (after : List ℕ) → MarksPromise n table buffer answer after
+    → marksNumber answer ≡ 0 → Marking n table buffer after
+marking-of n table buffer answer after p e = record {
+  marks = λ r j l h.
+      let t = tests-marks n G (rowAt G r) j h in
+      (λ x. t .sound (tests-eq _ 1 .complete (sym (ap (λ (m : ℕ). m / 2 ^ j % 2) (byte r l)) ∙ x)),
+      λ m. ap (λ (k : ℕ). k / 2 ^ j % 2) (byte r l) ∙ tests-eq _ 1 .sound (t .complete m));
+  small = λ r l. omega (arith, byte r l, marksOf-below n G (rowAt G r));
+  behind = ap (drop (length G)) written ∙ drop-at (tableMarks n G) (drop (length G) buffer) (length G) (length-tableMarks n G);
+}
+  where
+    G : Table
+    G = rows n table
+
+    written : after ≡ tableMarks n G ++ drop (length G) buffer
+    written = marks-unique p (marks-accepts n table buffer (sym (p .number) ∙ e)) .1
+
+    byte : (r : ℕ) → r < length G → getD after r 0 ≡ marksOf n G (rowAt G r)
+    byte r l = ap (λ (b : List ℕ). getD b r 0) written ∙ List·getD-append (tableMarks n G) (drop (length G) buffer) 0 r (omega (arith, length-tableMarks n G)) ∙ tableMarks-at n G r l
+
 pub demand-two : DemandTwo
 demand-two = record {
+  marks = marking-of;
   complete = λ n table buffer answer after p e.
       completion-of n table buffer (completeRows answer) after (accepted-promise n table buffer answer after p e);
   room = room-decides;

@@ -1,6 +1,7 @@
 -- What the passes over the rows need, over plain lists and numbers.
 --
 --   degree-padded, degree-small   the degree of a padded row; no row of an accepted table has a degree above 300
+--   known-none, known-set, known-at   the shares that were asked before
 --   share-small      no share exceeds the largest binomial
 --   shares-next, shares-done, shares-marked   the sum of shares from a row on, at the end, and with Janet's marks
 --   signed-next, signed-done, signed-marked   the same with signs
@@ -19,13 +20,13 @@ use mathlib.Core.Logic.{_⊎_, inl, inr, ⊎-elim, by-cases}
 use Prim.Native.Nat.{ℕ, zero, suc, _+_, _*_, _-_, _%_, _≤_, _<_, max}
 use native.Mathlib.Nat.{not-suc-le-zero, le-of-suc-le-suc}
 use native.Mathlib.Numerals.{add-one}
-use native.Mathlib.Decide.{decLe, decLt}
+use native.Mathlib.Decide.{decLe, decLt, ℕ-discrete}
 use native.Mathlib.Omega.{arith}
 use borrow.Author.Tests.{lt-ltb}
 use lib.Count.{ones, ones-le}
 use lib.Pow.{pow-mono}
-use lib.ListN.{length, getD, drop, length-append, drop-of-length-le, List·getD-append}
-use lib.Seq.{drop-cons}
+use lib.ListN.{length, getD, drop, set, replicate, length-append, length-replicate, length-set, getD-replicate, drop-of-length-le, List·getD-append, List·getD-eq-default}
+use lib.Seq.{drop-cons, getD-set-same, getD-set-other}
 use lib.IntN.{ℤ, pos, negsuc, negℤ, natAbs, subℕ, _+ℤ_, _-ℤ_, +ℤ-idl, +ℤ-idr, +ℤ-assoc, +ℤ-comm, negℤ-+ℤ, negℤ-negℤ, pos-+ℤ-pos}
 use mir.Syntax.{w64}
 use mir.Val.{SFits}
@@ -39,7 +40,7 @@ use Rattle.terms.proofs.RowsLaws.{padded-at, entry-at, row-size, row-within, ro
 use Rattle.terms.proofs.RefusalLaws.{TableAccepted}
 use Rattle.division.proofs.Facade.{multiplicativeTest, marksOf, tableMarks, marks-ones, marksOf-below, length-tableMarks, tableMarks-at}
 use Rattle.counting.specs.Counts.{sum, sumℤ, share, marksIn, oddTest, chooseℤ, signedShare, polynomialAt, steadyOf, countAt}
-use Rattle.counting.specs.Sums.{sharesOf, signedSharesOf, Summable, Splits, Checked, Marked}
+use Rattle.counting.specs.Sums.{sharesOf, signedSharesOf, Known, Summable, Splits, Checked, Marked}
 use Rattle.counting.proofs.ShareLaws.{share-inside, share-outside}
 use Rattle.counting.proofs.PolynomialLaws.{subℕ-pos}
 use Rattle.counting.proofs.JanetCount.{CountTable, janetShare, janet-count}
@@ -76,6 +77,30 @@ pub share-small : (s d m : ℕ) → s ≤ 300 → m ≤ 6 → share s d m ≤ 10
 share-small s d m h g = by-cases (decLe d s)
     (λ l. omega (arith, share-inside s d m l, choose-within (s - d + m) m g (omega arith)))
     (λ f. omega (arith, share-outside s d m (omega arith)))
+
+-- ---- the shares that were asked before
+
+pub known-none : (s : ℕ) → Known s (replicate 2107 0)
+known-none s = record { long = length-replicate {A = ℕ} 2107 0; right = λ d m h g. inl (zeros-at (d * 7 + m)) }
+  where
+    zeros-at : (i : ℕ) → _≡_ {A = ℕ} (getD (replicate 2107 0) i 0) 0
+    zeros-at i = by-cases (decLt i 2107) (λ l. getD-replicate 2107 i 0 0 l) (λ g. List·getD-eq-default (replicate 2107 0) 0 {n = i} (rw length-replicate (omega arith)))
+
+-- a share is stored at its own place, and no other share has that place
+pub known-set : (s : ℕ) (known : List ℕ) (d m v : ℕ) → Known s known → m ≤ 6 → d * 7 + m < 2107 → v ≡ share s d m → Known s (set known (d * 7 + m) v)
+known-set s known d m v k few l e = record { long = length-set known (d * 7 + m) v ∙ k .long; right = at }
+  where
+    at : (a b : ℕ) → a ≤ s → b ≤ 6 → (getD (set known (d * 7 + m) v) (a * 7 + b) 0 ≡ 0) ⊎ (getD (set known (d * 7 + m) v) (a * 7 + b) 0 ≡ share s a b)
+    at a b h g = by-cases (ℕ-discrete (a * 7 + b) (d * 7 + m))
+        (λ same.
+        let x : a ≡ d = omega arith in
+        let y : b ≡ m = omega arith in
+        inr (ap (λ (i : ℕ). getD (set known (d * 7 + m) v) i 0) same ∙ getD-set-same known (d * 7 + m) v 0 (omega (arith, k .long)) ∙ e ∙ sym (ap₂ (share s) x y)))
+        (λ other. let o = getD-set-other known (d * 7 + m) (a * 7 + b) v 0 other in ⊎-elim (λ z. inl (o ∙ z)) (λ z. inr (o ∙ z)) (k .right a b h g))
+
+-- what is found there is the share
+pub known-at : (s : ℕ) (known : List ℕ) (d m : ℕ) → Known s known → d ≤ s → m ≤ 6 → (getD known (d * 7 + m) 0 ≡ 0 → ⊥) → getD known (d * 7 + m) 0 ≡ share s d m
+known-at s known d m k h g f = ⊎-elim (λ z. absurd (f z)) (λ z. z) (k .right d m h g)
 
 -- a byte of six bits has at most six marks
 pub marks-few : (b : ℕ) → b < 64 → ones b ≤ 6

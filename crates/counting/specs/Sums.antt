@@ -3,11 +3,13 @@
 --   sharesOf s G marks   the shares of the rows of G at s, row r with the marks of byte r
 --   signedSharesOf s G marks   the same with rule 8's shares
 --   Summable n table marks s   what a pass over the rows asks: the table's limits, s, and a byte of at most six marks a row
+--   Known s known    what stands in `known`: at d * 7 + m the share at s of a row of degree d with m marks, or 0
 --   Splits c z plus minus   z is plus less minus, and neither exceeds c times the largest binomial
 --   Marked n table marks   byte r has Janet's marks of row r, for each row of the table
 --   Checked n table  what the checks leave: the table's limits, ascending rows, a complete table
 use mathlib.Core.Path.{_≡_}
 use mathlib.Core.List.{List, [], _∷_}
+use mathlib.Core.Logic.{_⊎_}
 use Prim.Native.Nat.{ℕ, _+_, _*_, _≤_, _<_}
 use lib.Count.{ones}
 use lib.ListN.{length, getD}
@@ -36,6 +38,10 @@ pub record Summable (n : ℕ) (table marks : List ℕ) (s : ℕ) : Type 0 where
   pub low : s ≤ 300
   pub marked : length (rows n table) ≤ length marks
   pub few : (k : ℕ) → k < length (rows n table) → getD marks k 0 < 64
+
+pub record Known (s : ℕ) (known : List ℕ) : Type 0 where
+  pub long : length known ≡ 2107
+  pub right : (d m : ℕ) → d ≤ s → m ≤ 6 → (getD known (d * 7 + m) 0 ≡ 0) ⊎ (getD known (d * 7 + m) 0 ≡ share s d m)
 
 -- 1,085,371,516,236 is C(306, 6)
 pub record Splits (c : ℕ) (z : ℤ) (plus minus : ℕ) : Type 0 where

@@ -11,7 +11,7 @@ ghost use lib.IntN.{pos, _-ℤ_};
 ghost use Rattle.terms.specs.Monomials.{rowAt, degree};
 ghost use Rattle.terms.specs.Rows.{rows};
 ghost use Rattle.counting.specs.Counts.{countAt, share, signedShare, polynomialAt, steadyOf};
-ghost use Rattle.counting.specs.Sums.{Summable, Checked, Marked, Splits, SplitsAll, sharesOf};
+ghost use Rattle.counting.specs.Sums.{Known, Summable, Checked, Marked, Splits, SplitsAll, sharesOf};
 
 // A share of rule 8, or a sum of such shares: what counts for it, and what counts against it.
 pub struct SignedShare {
@@ -27,17 +27,25 @@ fn row_degree(table: &[u8], n: usize, k: RowNumber) -> Degree
     degree_of(row_at(table, n, k))
 }
 
-// What a row of degree d with m marks takes away at s (rule 7).
-fn share(s: Degree, d: Degree, m: usize) -> u64
-    requires { ⌜ (s .0 ≤ 300) × (m ≤ 6) ⌝ }
-    ensures { λ r. ⌜ r ≡ share (s .0) (d .0) m ⌝ }
+// What a row of degree d with m marks takes away at s (rule 7). A binomial costs more than a look: what was asked before stands in `known`,
+// at d * 7 + m, and what was not is 0 there.
+fn share(known: &mut [u64; 2107], s: Degree, d: Degree, m: usize) -> u64
+    requires { ⌜ Known (s .0) (now known) × (s .0 ≤ 300) × (m ≤ 6) ⌝ }
+    ensures { λ r. ⌜ (r ≡ share (s .0) (d .0) m) × Known (s .0) (now (known .exit)) ⌝ }
 {
     let most = s.0;
     let own = d.0;
     if most < own {
         return 0;
     }
-    choose(most - own + m, m)
+    let place = own * 7 + m;
+    let before = known[place];
+    if before != 0 {
+        return before;
+    }
+    let value = choose(most - own + m, m);
+    known[place] = value;
+    value
 }
 
 // The shares of all rows, whose marks stand in `marks`, a byte a row.
@@ -45,12 +53,13 @@ fn shares(n: usize, table: &[u8], marks: &[u8], s: Degree) -> u64
     requires { ⌜ Summable n (now table) (now marks) (s .0) ⌝ }
     ensures { λ r. ⌜ r ≡ sharesOf (s .0) (rows n (now (table .entry))) (now (marks .entry)) ⌝ }
 {
+    let mut known = [0u64; 2107];
     let count = table.len() / n;
     let mut sum: u64 = 0;
     let mut k = 0;
     while k < count {
         let m = u8::count_ones(marks[k]) as usize;
-        sum += share(s, row_degree(table, n, RowNumber(k)), m);
+        sum += share(&mut known, s, row_degree(table, n, RowNumber(k)), m);
         k += 1;
     }
     sum

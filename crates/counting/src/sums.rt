@@ -9,7 +9,7 @@ ghost use lib.IntN.{pos, _-ℤ_};
 ghost use Rattle.terms.specs.Monomials.{rowAt, degree};
 ghost use Rattle.terms.specs.Rows.{rows};
 ghost use Rattle.counting.specs.Counts.{countAt, share, signedShare, polynomialAt, steadyOf};
-ghost use Rattle.counting.specs.Sums.{Known, Summable, Checked, Marked, Splits, SplitsAll, sharesOf};
+ghost use Rattle.counting.specs.Sums.{shareSize, Known, Summable, Checked, Marked, Splits, SplitsAll, sharesOf};
 
 // A share of rule 8, or a sum of such shares: what counts for it, and what counts against it.
 pub struct SignedShare {
@@ -33,10 +33,41 @@ fn row_degree(table: &[u8], n: usize, k: RowNumber) -> Degree
     Degree(sum)
 }
 
-// What a row of degree d with m marks takes away at s (rule 7). A binomial costs more than a look: what was asked before stands in `known`,
-// at d * 7 + m, and what was not is 0 there.
+// The size of the share of a row of degree d with m marks at s (rule 8), whatever its sign.
+fn share_size(s: Degree, d: Degree, m: usize) -> u64
+    requires { ⌜ (s .0 ≤ 300) × (d .0 ≤ 300) × (m ≤ 6) ⌝ }
+    ensures { λ r. ⌜ r ≡ shareSize (s .0) (d .0) m ⌝ }
+{
+    let most = s.0;
+    let own = d.0;
+    if own <= most {
+        return choose(most - own + m, m);
+    }
+    if own <= most + m {
+        return 0;
+    }
+    choose(own - most - 1, m)
+}
+
+// The same. A binomial costs more than a look: what was asked before stands in `known`, at d * 7 + m, and what was not is 0 there.
+fn known_size(known: &mut [u64; 2107], s: Degree, d: Degree, m: usize) -> u64
+    requires { ⌜ Known (s .0) (now known) × (s .0 ≤ 300) × (d .0 ≤ 300) × (m ≤ 6) ⌝ }
+    ensures { λ r. ⌜ (r ≡ shareSize (s .0) (d .0) m) × Known (s .0) (now (known .exit)) ⌝ }
+{
+    let own = d.0;
+    let place = own * 7 + m;
+    let before = known[place];
+    if before != 0 {
+        return before;
+    }
+    let size = share_size(s, d, m);
+    known[place] = size;
+    size
+}
+
+// What a row of degree d with m marks takes away at s (rule 7).
 fn share(known: &mut [u64; 2107], s: Degree, d: Degree, m: usize) -> u64
-    requires { ⌜ Known (s .0) (now known) × (s .0 ≤ 300) × (m ≤ 6) ⌝ }
+    requires { ⌜ Known (s .0) (now known) × (s .0 ≤ 300) × (d .0 ≤ 300) × (m ≤ 6) ⌝ }
     ensures { λ r. ⌜ (r ≡ share (s .0) (d .0) m) × Known (s .0) (now (known .exit)) ⌝ }
 {
     let most = s.0;
@@ -44,14 +75,7 @@ fn share(known: &mut [u64; 2107], s: Degree, d: Degree, m: usize) -> u64
     if most < own {
         return 0;
     }
-    let place = own * 7 + m;
-    let before = known[place];
-    if before != 0 {
-        return before;
-    }
-    let value = choose(most - own + m, m);
-    known[place] = value;
-    value
+    known_size(known, s, d, m)
 }
 
 // The shares of all rows, whose marks stand in `marks`, a byte a row.
@@ -81,19 +105,19 @@ pub fn count_sum(n: usize, table: &[u8], marks: &[u8], s: Degree) -> u64
 }
 
 // The share of a row of degree d with m marks at s, no row left out (rule 8).
-fn signed_share(s: Degree, d: Degree, m: usize) -> SignedShare
-    requires { ⌜ (s .0 ≤ 300) × (d .0 ≤ 300) × (m ≤ 6) ⌝ }
-    ensures { λ r. ⌜ Splits 1 (signedShare (s .0) (d .0) m) (r .plus) (r .minus) ⌝ }
+fn signed_share(known: &mut [u64; 2107], s: Degree, d: Degree, m: usize) -> SignedShare
+    requires { ⌜ Known (s .0) (now known) × (s .0 ≤ 300) × (d .0 ≤ 300) × (m ≤ 6) ⌝ }
+    ensures { λ r. ⌜ Splits 1 (signedShare (s .0) (d .0) m) (r .plus) (r .minus) × Known (s .0) (now (known .exit)) ⌝ }
 {
     let most = s.0;
     let own = d.0;
+    let size = known_size(known, s, d, m);
     if own <= most + m {
         return SignedShare {
-            plus: choose(most + m - own, m),
+            plus: size,
             minus: 0,
         };
     }
-    let size = choose(own - most - 1, m);
     if m % 2 == 1 {
         return SignedShare {
             plus: 0,
@@ -111,13 +135,14 @@ fn signed_shares(n: usize, table: &[u8], marks: &[u8], s: Degree) -> SignedShare
     requires { ⌜ Summable n (now table) (now marks) (s .0) ⌝ }
     ensures { λ r. ⌜ SplitsAll n (now (table .entry)) (now (marks .entry)) (s .0) (r .plus) (r .minus) ⌝ }
 {
+    let mut known = [0u64; 2107];
     let count = table.len() / n;
     let mut plus: u64 = 0;
     let mut minus: u64 = 0;
     let mut k = 0;
     while k < count {
         let m = u8::count_ones(marks[k]) as usize;
-        let one = signed_share(s, row_degree(table, n, RowNumber(k)), m);
+        let one = signed_share(&mut known, s, row_degree(table, n, RowNumber(k)), m);
         plus += one.plus;
         minus += one.minus;
         k += 1;

@@ -11,7 +11,7 @@ use Rattle.terms.specs.Rows.{rows}
 use Rattle.terms.proofs.RowsLaws.{length-rows}
 use Rattle.counting.specs.Counts.{share}
 use Rattle.counting.specs.Sums.{sharesOf, Known}
-use Rattle.counting.proofs.PassLaws.{known-none, share-small, marks-few, shares-next, shares-done}
+use Rattle.counting.proofs.PassLaws.{degree-small, known-none, share-small, marks-few, shares-next, shares-done}
 use Rattle.counting.proofs.sums.shares.Statement.{statement}
 use Rattle.counting.proofs.sums.shares.Tie as tie
 
@@ -50,7 +50,10 @@ row-degree-requires c κs = (c .before .before .before .before .before .before .
 
 share-requires : tie.Need-share-requires Inv-loop μ-loop
 share-requires c κs =
-    (c .before .before .before .before .loop .inv .3, c .before .before .before .before .before .before .before .pre .low, few (c .before .before .before))
+    let start = c .before .before .before .before .before .before .before in
+    let loop = c .before .before .before .before .loop in
+    let small = degree-small (start .args .n) (start .args .table .now) (start .pre .accepted) (loop .k) (in-table (c .before .before .before)) in
+    (loop .inv .3, start .pre .low, omega (arith, c .row-degree .ensures), few (c .before .before .before))
 
 -- the share of row k is small, and the row one of at most 4,096
 small : (c : tie.After-share Inv-loop μ-loop) → c .share .result ≤ 1085371516236
@@ -80,7 +83,7 @@ loop-again c =
     let k = c .before .before .before .before .before .loop .k in
     let l = in-table (c .before .before .before .before) in
     let e : c .share .result ≡ share s (degree (rowAt G k)) (ones (getD marks k 0)) =
-        c .share .ensures .0 ∙ ap (λ (d : ℕ). share s d (ones (getD marks k 0))) (c .before .row-degree .ensures) in
+    c .share .ensures .0 ∙ ap (λ (d : ℕ). share s d (ones (getD marks k 0))) (c .before .row-degree .ensures) in
     (omega arith, omega (arith, shares-next s G marks k l (omega (arith, start .pre .marked))), omega (arith, small c), c .share .ensures .1)
 
 returns : tie.Need-returns Inv-loop μ-loop

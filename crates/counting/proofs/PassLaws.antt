@@ -1,6 +1,8 @@
 -- What the passes over the rows need, over plain lists and numbers.
 --
---   degree-padded, degree-small   the degree of a padded row; no row of an accepted table has a degree above 300
+--   entry-small, degree-small   no entry of an accepted table is above 50, no degree of a row above 300
+--   size-near, size-none, size-far, share-near   the size of a share, by its cases
+--   known-none, known-set, known-at   the sizes that were asked before
 --   share-small      no share exceeds the largest binomial
 --   shares-next, shares-done, shares-marked   the sum of shares from a row on, at the end, and with Janet's marks
 --   signed-next, signed-done, signed-marked   the same with signs
@@ -19,36 +21,33 @@ use mathlib.Core.Logic.{_⊎_, inl, inr, ⊎-elim, by-cases}
 use Prim.Native.Nat.{ℕ, zero, suc, _+_, _*_, _-_, _%_, _≤_, _<_, max}
 use native.Mathlib.Nat.{not-suc-le-zero, le-of-suc-le-suc}
 use native.Mathlib.Numerals.{add-one}
-use native.Mathlib.Decide.{decLe, decLt}
+use native.Mathlib.Decide.{decLe, decLt, ℕ-discrete}
 use native.Mathlib.Omega.{arith}
-use borrow.Author.Tests.{lt-ltb}
+use borrow.Author.Tests.{lt-ltb, le-leb, lt-leb}
 use lib.Count.{ones, ones-le}
 use lib.Pow.{pow-mono}
-use lib.ListN.{length, getD, drop, length-append, drop-of-length-le, List·getD-append}
-use lib.Seq.{drop-cons}
+use lib.ListN.{length, getD, drop, set, replicate, length-append}
+use lib.ListN.{length-replicate, length-set, getD-replicate, drop-of-length-le, List·getD-append, List·getD-eq-default}
+use lib.Seq.{drop-cons, getD-set-same, getD-set-other}
 use lib.IntN.{ℤ, pos, negsuc, negℤ, natAbs, subℕ, _+ℤ_, _-ℤ_, +ℤ-idl, +ℤ-idr, +ℤ-assoc, +ℤ-comm, negℤ-+ℤ, negℤ-negℤ, pos-+ℤ-pos}
 use mir.Syntax.{w64}
 use mir.Val.{SFits}
 use Rattle.binomial.specs.Choose.{choose}
-use Rattle.binomial.proofs.ChooseLaws.{choose-within}
+use Rattle.binomial.proofs.ChooseLaws.{choose-over, choose-within}
 use Rattle.terms.specs.Tests.{pick}
 use Rattle.terms.specs.Monomials.{Monomial, Table, _!_, rowAt, degree}
-use Rattle.terms.specs.Rows.{rows, padded}
-use Rattle.terms.proofs.MonomialLaws.{beyond, degree-le}
-use Rattle.terms.proofs.RowsLaws.{padded-at, entry-at, row-size, row-within, rows-size, member-at}
+use Rattle.terms.specs.Rows.{rows}
+use Rattle.terms.proofs.MonomialLaws.{beyond}
+use Rattle.terms.proofs.RowsLaws.{entry-at, row-size, row-within, rows-size, member-at}
 use Rattle.terms.proofs.RefusalLaws.{TableAccepted}
 use Rattle.division.proofs.Facade.{multiplicativeTest, marksOf, tableMarks, marks-ones, marksOf-below, length-tableMarks, tableMarks-at}
 use Rattle.counting.specs.Counts.{sum, sumℤ, share, marksIn, oddTest, chooseℤ, signedShare, polynomialAt, steadyOf, countAt}
-use Rattle.counting.specs.Sums.{sharesOf, signedSharesOf, Summable, Splits, Checked, Marked}
+use Rattle.counting.specs.Sums.{sharesOf, signedSharesOf, shareSize, Known, Summable, Splits, Checked, Marked}
 use Rattle.counting.proofs.ShareLaws.{share-inside, share-outside}
 use Rattle.counting.proofs.PolynomialLaws.{subℕ-pos}
 use Rattle.counting.proofs.JanetCount.{CountTable, janetShare, janet-count}
 
 -- ---- degrees
-
-pub degree-padded : (u : Monomial) → degree (padded u) ≡ degree u
-degree-padded u =
-    omega (arith, degree-le (padded u) u (λ i. omega (arith, padded-at u i)), degree-le u (padded u) (λ i. omega (arith, padded-at u i)))
 
 -- no exponent above 50
 degree-limit : (u : Monomial) → ((i : ℕ) → u ! i ≤ 50) → degree u ≤ length u * 50
@@ -76,6 +75,48 @@ pub share-small : (s d m : ℕ) → s ≤ 300 → m ≤ 6 → share s d m ≤ 10
 share-small s d m h g = by-cases (decLe d s)
     (λ l. omega (arith, share-inside s d m l, choose-within (s - d + m) m g (omega arith)))
     (λ f. omega (arith, share-outside s d m (omega arith)))
+
+-- ---- the size of a share
+
+pub size-near : (s d m : ℕ) → d ≤ s → shareSize s d m ≡ choose (s - d + m) m
+unfolding shareSize
+size-near s d m h = rw (le-leb d s h)
+
+pub size-none : (s d m : ℕ) → s < d → d ≤ s + m → shareSize s d m ≡ 0
+unfolding shareSize
+size-none s d m h g = rw (lt-leb d s h, le-leb d (s + m) g)
+
+pub size-far : (s d m : ℕ) → s + m < d → shareSize s d m ≡ choose (d - s - 1) m
+unfolding shareSize
+size-far s d m h = let g : s < d = omega arith in rw (lt-leb d s g, lt-leb d (s + m) h)
+
+pub share-near : (s d m : ℕ) → d ≤ s → shareSize s d m ≡ share s d m
+share-near s d m h = size-near s d m h ∙ sym (share-inside s d m h)
+
+-- ---- the sizes that were asked before
+
+pub known-none : (s : ℕ) → Known s (replicate 2107 0)
+known-none s = record { long = length-replicate {A = ℕ} 2107 0; right = λ d m h g. inl (zeros-at (d * 7 + m)) }
+  where
+    zeros-at : (i : ℕ) → _≡_ {A = ℕ} (getD (replicate 2107 0) i 0) 0
+    zeros-at i = by-cases (decLt i 2107) (λ l. getD-replicate 2107 i 0 0 l) (λ g. List·getD-eq-default (replicate 2107 0) 0 {n = i} (rw length-replicate (omega arith)))
+
+-- a share is stored at its own place, and no other share has that place
+pub known-set : (s : ℕ) (known : List ℕ) (d m v : ℕ) → Known s known → m ≤ 6 → d * 7 + m < 2107 → v ≡ shareSize s d m → Known s (set known (d * 7 + m) v)
+known-set s known d m v k few l e = record { long = length-set known (d * 7 + m) v ∙ k .long; right = at }
+  where
+    at : (a b : ℕ) → a ≤ 300 → b ≤ 6 → (getD (set known (d * 7 + m) v) (a * 7 + b) 0 ≡ 0) ⊎ (getD (set known (d * 7 + m) v) (a * 7 + b) 0 ≡ shareSize s a b)
+    at a b h g = by-cases (ℕ-discrete (a * 7 + b) (d * 7 + m))
+        (λ same.
+        let x : a ≡ d = omega arith in
+        let y : b ≡ m = omega arith in
+        inr (ap (λ (i : ℕ). getD (set known (d * 7 + m) v) i 0) same ∙ getD-set-same known (d * 7 + m) v 0 (omega (arith, k .long)) ∙ e ∙ sym (ap₂ (shareSize s) x y)))
+        (λ other. let o = getD-set-other known (d * 7 + m) (a * 7 + b) v 0 other in ⊎-elim (λ z. inl (o ∙ z)) (λ z. inr (o ∙ z)) (k .right a b h g))
+
+-- what is found there is the share
+pub known-at : (s : ℕ) (known : List ℕ) (d m : ℕ) → Known s known → d ≤ 300 → m ≤ 6 → (getD known (d * 7 + m) 0 ≡ 0 → ⊥)
+    → getD known (d * 7 + m) 0 ≡ shareSize s d m
+known-at s known d m k h g f = ⊎-elim (λ z. absurd (f z)) (λ z. z) (k .right d m h g)
 
 -- a byte of six bits has at most six marks
 pub marks-few : (b : ℕ) → b < 64 → ones b ≤ 6
@@ -169,33 +210,42 @@ subℕ-neg : (a b : ℕ) → a < b → subℕ a b ≡ negsuc (b - suc a)
 subℕ-neg a b h = rw (lt-ltb a b h)
 
 module _ (s d m : ℕ) (low : s ≤ 300) (few : m ≤ 6) where
-  pub splits-plus : d ≤ s + m → Splits 1 (signedShare s d m) (choose (s + m - d) m) 0
+  -- for d above s the top is below m
+  size-plus : d ≤ s + m → shareSize s d m ≡ choose (s + m - d) m
+  size-plus h = by-cases (decLe d s)
+      (λ l. let e : s - d + m ≡ s + m - d = omega arith in size-near s d m l ∙ ap (λ (x : ℕ). choose x m) e)
+      (λ g. size-none s d m (omega arith) h ∙ sym (choose-over (s + m - d) m (omega arith)))
+
+  pub splits-plus : d ≤ s + m → Splits 1 (signedShare s d m) (shareSize s d m) 0
   unfolding signedShare chooseℤ
   splits-plus h = record {
-    difference = +ℤ-idr (pos (choose (s + m - d) m)) ∙ sym (ap (λ (t : ℤ). chooseℤ t m) (subℕ-pos (s + m) d h));
-    plus-small = omega (arith, choose-within (s + m - d) m few (omega arith));
+    difference = +ℤ-idr (pos (shareSize s d m)) ∙ ap pos (size-plus h) ∙ sym (ap (λ (t : ℤ). chooseℤ t m) (subℕ-pos (s + m) d h));
+    plus-small = omega (arith, size-plus h, choose-within (s + m - d) m few (omega arith));
     minus-small = omega arith;
   }
 
   module _ (small : d ≤ 300) (above : s + m < d) where
-    negative : signedShare s d m ≡ pick (oddTest m) (negℤ (pos (choose (d - s - 1) m))) (pos (choose (d - s - 1) m))
+    negative : signedShare s d m ≡ pick (oddTest m) (negℤ (pos (shareSize s d m))) (pos (shareSize s d m))
     unfolding signedShare chooseℤ
     negative =
         let e : m + (d - suc (s + m)) ≡ d - s - 1 = omega arith in
         ap (λ (t : ℤ). chooseℤ t m) (subℕ-neg (s + m) d above)
-        ∙ ap (λ (x : ℕ). pick (oddTest m) (negℤ (pos (choose x m))) (pos (choose x m))) e
+        ∙ ap (λ (x : ℕ). pick (oddTest m) (negℤ (pos x)) (pos x)) (ap (λ (x : ℕ). choose x m) e ∙ sym (size-far s d m above))
 
-    pub splits-odd : m % 2 ≡ 1 → Splits 1 (signedShare s d m) 0 (choose (d - s - 1) m)
+    size-small : shareSize s d m ≤ 1085371516236
+    size-small = omega (arith, size-far s d m above, choose-within (d - s - 1) m few (omega arith))
+
+    pub splits-odd : m % 2 ≡ 1 → Splits 1 (signedShare s d m) 0 (shareSize s d m)
     splits-odd h = record {
-      difference = +ℤ-idl (negℤ (pos (choose (d - s - 1) m))) ∙ sym (negative ∙ rw (odd-odd m h));
+      difference = +ℤ-idl (negℤ (pos (shareSize s d m))) ∙ sym (negative ∙ rw (odd-odd m h));
       plus-small = omega arith;
-      minus-small = omega (arith, choose-within (d - s - 1) m few (omega arith));
+      minus-small = omega (arith, size-small);
     }
 
-    pub splits-even : (m % 2 ≡ 1 → ⊥) → Splits 1 (signedShare s d m) (choose (d - s - 1) m) 0
+    pub splits-even : (m % 2 ≡ 1 → ⊥) → Splits 1 (signedShare s d m) (shareSize s d m) 0
     splits-even h = record {
-      difference = +ℤ-idr (pos (choose (d - s - 1) m)) ∙ sym (negative ∙ rw (odd-even m h));
-      plus-small = omega (arith, choose-within (d - s - 1) m few (omega arith));
+      difference = +ℤ-idr (pos (shareSize s d m)) ∙ sym (negative ∙ rw (odd-even m h));
+      plus-small = omega (arith, size-small);
       minus-small = omega arith;
     }
 

@@ -2,21 +2,19 @@
 use mathlib.Core.Path.{sym, _∙_}
 use native.Mathlib.Omega.{arith}
 use borrow.Author.Needs.{needs}
-use Rattle.counting.proofs.ShareLaws.{share-inside, share-outside}
+use Rattle.counting.proofs.ShareLaws.{share-outside}
+use Rattle.counting.proofs.PassLaws.{share-near}
 use Rattle.counting.proofs.sums.share.Statement.{statement}
 use Rattle.counting.proofs.sums.share.Tie as tie
 
 returns : tie.Need-returns
-returns c = sym (share-outside _ _ _ (omega arith))
+returns c = (sym (share-outside _ _ _ (omega arith)), c .before .pre .0)
 
-add-choose : tie.Need-add-choose
-add-choose c = search needs
-
-choose-requires : tie.Need-choose-requires
-choose-requires c κs = search needs
+known-size-requires : tie.Need-known-size-requires
+known-size-requires c κs = search needs
 
 returns-2 : tie.Need-returns-2
-returns-2 c = c .choose .ensures ∙ sym (share-inside _ _ _ (omega arith))
+returns-2 c = (c .known-size .ensures .0 ∙ share-near _ _ _ (omega arith), c .known-size .ensures .1)
 
 pub share-spec : {M : Type 1} → statement M
-share-spec = tie.close (tie.spec returns add-choose choose-requires returns-2)
+share-spec = tie.close (tie.spec returns known-size-requires returns-2)

@@ -1,5 +1,5 @@
 -- `counting::sums::shares` meets its contract. The invariant: the sum so far and the shares of the rows from k on make the whole, and no
--- share exceeds the largest binomial, so 4,096 of them fit. The measure is what is left of the rows.
+-- share exceeds the largest binomial, so 4,096 of them fit; what is known is right. The measure is what is left of the rows.
 use mathlib.Core.Path.{_≡_, ap, _∙_}
 use Prim.Native.Nat.{ℕ, _+_, _*_, _-_, _≤_, _<_}
 use native.Mathlib.Omega.{arith}
@@ -10,25 +10,26 @@ use Rattle.terms.specs.Monomials.{rowAt, degree}
 use Rattle.terms.specs.Rows.{rows}
 use Rattle.terms.proofs.RowsLaws.{length-rows}
 use Rattle.counting.specs.Counts.{share}
-use Rattle.counting.specs.Sums.{sharesOf}
-use Rattle.counting.proofs.PassLaws.{share-small, marks-few, shares-next, shares-done}
+use Rattle.counting.specs.Sums.{sharesOf, Known}
+use Rattle.counting.proofs.PassLaws.{degree-small, known-none, share-small, marks-few, shares-next, shares-done}
 use Rattle.counting.proofs.sums.shares.Statement.{statement}
 use Rattle.counting.proofs.sums.shares.Tie as tie
 
 abbrev Inv-loop : tie.InvT-loop
-Inv-loop n table marks s count sum₀ k₀ sum k =
+Inv-loop n table marks s known₀ count sum₀ k₀ known sum k =
     (k ≤ count)
     × (sum + sharesOf (s .0) (drop k (rows n table)) (drop k marks) ≡ sharesOf (s .0) (rows n table) marks)
     × (sum ≤ k * 1085371516236)
+    × Known (s .0) known
 
 abbrev μ-loop : tie.MeasureT-loop
-μ-loop n table marks s count sum₀ k₀ sum k = count - k
+μ-loop n table marks s known₀ count sum₀ k₀ known sum k = count - k
 
 div-count : tie.Need-div-count Inv-loop μ-loop
 div-count c = search needs
 
 loop-holds : tie.Need-loop-holds Inv-loop μ-loop
-loop-holds c = search needs
+loop-holds c = (omega arith, omega arith, omega arith, known-none _)
 
 -- in the loop row k is one of the table's, and its byte has at most six marks
 in-table : (c : tie.In-loop Inv-loop μ-loop)
@@ -45,37 +46,45 @@ cast-m : tie.Need-cast-m Inv-loop μ-loop
 cast-m c = omega (arith, few (c .before))
 
 row-degree-requires : tie.Need-row-degree-requires Inv-loop μ-loop
-row-degree-requires c κs = (c .before .before .before .before .before .pre .accepted .few, in-table (c .before))
+row-degree-requires c κs = (c .before .before .before .before .before .before .pre .accepted .few, in-table (c .before .before))
 
 share-requires : tie.Need-share-requires Inv-loop μ-loop
-share-requires c κs = (c .before .before .before .before .before .before .pre .low, few (c .before .before))
+share-requires c κs =
+    let start = c .before .before .before .before .before .before .before in
+    let loop = c .before .before .before .before .loop in
+    let small = degree-small (start .args .n) (start .args .table .now) (start .pre .accepted) (loop .k) (in-table (c .before .before .before)) in
+    (loop .inv .3, start .pre .low, omega (arith, c .row-degree .ensures), few (c .before .before .before))
 
--- the share of row k is small
+-- the share of row k is small, and the row one of at most 4,096
 small : (c : tie.After-share Inv-loop μ-loop) → c .share .result ≤ 1085371516236
 small c =
-    let start = c .before .before .before .before .before .before .before in
-    omega (arith, c .share .ensures, share-small (start .args .s .0) (c .before .row-degree .result .0) _ (start .pre .low) (few (c .before .before .before)))
+    let start = c .before .before .before .before .before .before .before .before in
+    let d = c .before .row-degree .result .0 in
+    omega (arith, c .share .ensures .0, share-small (start .args .s .0) d _ (start .pre .low) (few (c .before .before .before .before)))
+
+counted : (c : tie.In-loop Inv-loop μ-loop) → c .before .loop .k < 4096
+counted c = omega (arith, in-table c, c .before .before .before .before .pre .accepted .limited)
 
 add-sum : tie.Need-add-sum Inv-loop μ-loop
-add-sum c = omega (arith, small c, in-table (c .before .before .before), c .before .before .before .before .before .before .before .pre .accepted .limited)
+add-sum c = omega (arith, small c, counted (c .before .before .before .before))
 
 add-k : tie.Need-add-k Inv-loop μ-loop
-add-k c = omega (arith, in-table (c .before .before .before), c .before .before .before .before .before .before .before .pre .accepted .limited)
+add-k c = omega (arith, counted (c .before .before .before .before))
 
 loop-less : tie.Need-loop-less Inv-loop μ-loop
 loop-less c = search needs
 
 loop-again : tie.Need-loop-again Inv-loop μ-loop
 loop-again c =
-    let start = c .before .before .before .before .before .before .before in
+    let start = c .before .before .before .before .before .before .before .before in
     let G = rows (start .args .n) (start .args .table .now) in
     let marks = start .args .marks .now in
     let s = start .args .s .0 in
-    let k = c .before .before .before .before .loop .k in
-    let l = in-table (c .before .before .before) in
+    let k = c .before .before .before .before .before .loop .k in
+    let l = in-table (c .before .before .before .before) in
     let e : c .share .result ≡ share s (degree (rowAt G k)) (ones (getD marks k 0)) =
-    c .share .ensures ∙ ap (λ (d : ℕ). share s d (ones (getD marks k 0))) (c .before .row-degree .ensures) in
-    (omega arith, omega (arith, shares-next s G marks k l (omega (arith, start .pre .marked))), omega (arith, small c))
+    c .share .ensures .0 ∙ ap (λ (d : ℕ). share s d (ones (getD marks k 0))) (c .before .row-degree .ensures) in
+    (omega arith, omega (arith, shares-next s G marks k l (omega (arith, start .pre .marked))), omega (arith, small c), c .share .ensures .1)
 
 returns : tie.Need-returns Inv-loop μ-loop
 returns c =

@@ -1,5 +1,6 @@
 -- `counting::sums::signed_shares` meets its contract. The invariant: what counts for the shares so far less what counts against them, and
--- the shares of the rows from k on, make the whole; neither part exceeds k times the largest binomial.
+-- the shares of the rows from k on, make the whole; neither part exceeds k times the largest binomial; what is
+-- known is right.
 use mathlib.Core.Path.{_≡_, sym, ap, _∙_}
 use Prim.Native.Nat.{ℕ, _*_, _-_, _≤_, _<_}
 use native.Mathlib.Omega.{arith}
@@ -11,26 +12,27 @@ use Rattle.terms.specs.Monomials.{rowAt, degree}
 use Rattle.terms.specs.Rows.{rows}
 use Rattle.terms.proofs.RowsLaws.{length-rows}
 use Rattle.counting.specs.Counts.{signedShare}
-use Rattle.counting.specs.Sums.{signedSharesOf}
-use Rattle.counting.proofs.PassLaws.{marks-few, degree-small, signed-next, signed-done, splits-add}
+use Rattle.counting.specs.Sums.{signedSharesOf, Known}
+use Rattle.counting.proofs.PassLaws.{degree-small, known-none, marks-few, signed-next, signed-done, splits-add}
 use Rattle.counting.proofs.sums.signed_shares.Statement.{statement}
 use Rattle.counting.proofs.sums.signed_shares.Tie as tie
 
 abbrev Inv-loop : tie.InvT-loop
-Inv-loop n table marks s count plus₀ minus₀ k₀ plus minus k =
+Inv-loop n table marks s known₀ count plus₀ minus₀ k₀ known plus minus k =
     (k ≤ count)
     × ((pos plus -ℤ pos minus) +ℤ signedSharesOf (s .0) (drop k (rows n table)) (drop k marks) ≡ signedSharesOf (s .0) (rows n table) marks)
     × (plus ≤ k * 1085371516236)
     × (minus ≤ k * 1085371516236)
+    × Known (s .0) known
 
 abbrev μ-loop : tie.MeasureT-loop
-μ-loop n table marks s count plus₀ minus₀ k₀ plus minus k = count - k
+μ-loop n table marks s known₀ count plus₀ minus₀ k₀ known plus minus k = count - k
 
 div-count : tie.Need-div-count Inv-loop μ-loop
 div-count c = search needs
 
 loop-holds : tie.Need-loop-holds Inv-loop μ-loop
-loop-holds c = (omega arith, +ℤ-idl _, omega arith, omega arith)
+loop-holds c = (omega arith, +ℤ-idl _, omega arith, omega arith, known-none _)
 
 -- in the loop row k is one of the table's, and its byte has at most six marks
 in-table : (c : tie.In-loop Inv-loop μ-loop)
@@ -47,49 +49,50 @@ cast-m : tie.Need-cast-m Inv-loop μ-loop
 cast-m c = omega (arith, few (c .before))
 
 row-degree-requires : tie.Need-row-degree-requires Inv-loop μ-loop
-row-degree-requires c κs = (c .before .before .before .before .before .pre .accepted .few, in-table (c .before))
+row-degree-requires c κs = (c .before .before .before .before .before .before .pre .accepted .few, in-table (c .before .before))
 
 signed-share-requires : tie.Need-signed-share-requires Inv-loop μ-loop
 signed-share-requires c κs =
-    let start = c .before .before .before .before .before .before in
-    let k = c .before .before .before .loop .k in
-    let small = degree-small (start .args .n) (start .args .table .now) (start .pre .accepted) k (in-table (c .before .before)) in
-    (start .pre .low, omega (arith, c .row-degree .ensures), few (c .before .before))
+    let start = c .before .before .before .before .before .before .before in
+    let loop = c .before .before .before .before .loop in
+    let small = degree-small (start .args .n) (start .args .table .now) (start .pre .accepted) (loop .k) (in-table (c .before .before .before)) in
+    (loop .inv .4, start .pre .low, omega (arith, c .row-degree .ensures), few (c .before .before .before))
 
 -- the row is one of at most 4,096
 counted : (c : tie.In-loop Inv-loop μ-loop) → c .before .loop .k < 4096
 counted c = omega (arith, in-table c, c .before .before .before .before .pre .accepted .limited)
 
 add-plus : tie.Need-add-plus Inv-loop μ-loop
-add-plus c = omega (arith, c .before .signed-share .ensures .plus-small, counted (c .before .before .before .before))
+add-plus c = omega (arith, c .before .signed-share .ensures .0 .plus-small, counted (c .before .before .before .before .before))
 
 add-minus : tie.Need-add-minus Inv-loop μ-loop
-add-minus c = omega (arith, c .before .before .signed-share .ensures .minus-small, counted (c .before .before .before .before .before))
+add-minus c = omega (arith, c .before .before .signed-share .ensures .0 .minus-small, counted (c .before .before .before .before .before .before))
 
 add-k : tie.Need-add-k Inv-loop μ-loop
-add-k c = omega (arith, counted (c .before .before .before .before .before))
+add-k c = omega (arith, counted (c .before .before .before .before .before .before))
 
 loop-less : tie.Need-loop-less Inv-loop μ-loop
 loop-less c = search needs
 
 loop-again : tie.Need-loop-again Inv-loop μ-loop
 loop-again c =
-    let start = c .before .before .before .before .before .before .before .before .before in
+    let start = c .before .before .before .before .before .before .before .before .before .before in
     let G = rows (start .args .n) (start .args .table .now) in
     let marks = start .args .marks .now in
     let s = start .args .s .0 in
-    let before = c .before .before .before .before .before .before .loop in
+    let before = c .before .before .before .before .before .before .before .loop in
     let k = before .k in
     let one = c .before .before .signed-share .result in
-    let given = c .before .before .signed-share .ensures in
+    let given = c .before .before .signed-share .ensures .0 in
     let e : pos (one .plus) -ℤ pos (one .minus) ≡ signedShare s (degree (rowAt G k)) (ones (getD marks k 0)) =
     given .difference ∙ ap (λ (d : ℕ). signedShare s d (ones (getD marks k 0))) (c .before .before .before .row-degree .ensures) in
-    let l = in-table (c .before .before .before .before .before) in
+    let l = in-table (c .before .before .before .before .before .before) in
     let f = signed-next s G marks k l (omega (arith, start .pre .marked)) in (
       omega arith,
       splits-add (before .plus) (before .minus) (one .plus) (one .minus) _ _ _ (rw f at (before .inv .1)) e,
       omega (arith, given .plus-small),
       omega (arith, given .minus-small),
+      c .before .before .signed-share .ensures .1,
     )
 
 returns : tie.Need-returns Inv-loop μ-loop

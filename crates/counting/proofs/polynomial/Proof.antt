@@ -29,7 +29,7 @@ slice-aggregate-mark-ascending c = search needs
 mark-ascending-requires : tie.Need-mark-ascending-requires
 mark-ascending-requires c κs =
     let t = checked (c .before) .0 in
-    (t .accepted .some, t .accepted .few, t .ascending, t .accepted .limited)
+    (record { some = t .accepted .some; few = t .accepted .few; limited = t .accepted .limited; room = t .accepted .limited }, t .ascending)
 
 slice-aggregate-polynomial-sum : tie.Need-slice-aggregate-polynomial-sum
 slice-aggregate-polynomial-sum c = search needs

@@ -1,5 +1,7 @@
 //! Opening a table of a bundle with all its checks.
 
+use crate::packed::entries_are_small;
+
 /// The table's number of variables and its bytes; nothing for a bundle with a fault.
 pub fn open(bundle: &[u8], table: usize) -> Option<(usize, &[u8])> {
     let (&n, &tables) = (bundle.first()?, bundle.get(1)?);
@@ -22,6 +24,6 @@ pub fn open(bundle: &[u8], table: usize) -> Option<(usize, &[u8])> {
         }
         place += n * rows;
     }
-    let sound = place == bundle.len() && bundle[header..].iter().all(|&entry| entry <= 50);
+    let sound = place == bundle.len() && entries_are_small(&bundle[header..]);
     wanted.filter(|_| sound).map(|part| (n, &bundle[part]))
 }

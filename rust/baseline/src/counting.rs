@@ -1,6 +1,7 @@
 //! One count with all its checks: entries, order, completeness, then the sum over the cones.
 
 use crate::division::{ascending_marks, find_by_descent};
+use crate::packed::{ascends, entries_are_small};
 
 /// The number of monomials of degree at most s outside the ideal; nothing for a table that is not complete and ascending.
 pub fn count(n: usize, table: &[u8], s: usize) -> Option<u64> {
@@ -14,12 +15,7 @@ pub fn count(n: usize, table: &[u8], s: usize) -> Option<u64> {
 
 /// The checks that find makes too: entries at most 50, and rows that ascend strictly.
 pub fn is_valid(n: usize, table: &[u8]) -> bool {
-    table.iter().all(|&entry| entry <= 50) && ascends(n, table)
-}
-
-/// Each row is below the next.
-fn ascends(n: usize, table: &[u8]) -> bool {
-    table.chunks_exact(n).zip(table.chunks_exact(n).skip(1)).all(|(row, next)| row < next)
+    entries_are_small(table) && ascends(n, table)
 }
 
 /// Each row times each variable without mark has a Janet divisor.

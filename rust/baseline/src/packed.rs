@@ -18,8 +18,34 @@ pub fn pack_all(n: usize, table: &[u8]) -> Vec<u64> {
 
 /// The same for an n that is known when this is compiled, so that no loop over n is left.
 fn pack_rows<const N: usize>(table: &[u8]) -> Vec<u64> {
-    let pack = |row: &[u8]| row.iter().take(N).fold(0, |word, &exponent| word << 8 | u64::from(exponent));
-    table.chunks_exact(N).map(pack).collect()
+    table.chunks_exact(N).map(pack::<N>).collect()
+}
+
+/// The word of a row.
+fn pack<const N: usize>(row: &[u8]) -> u64 {
+    row.iter().take(N).fold(0, |word, &exponent| word << 8 | u64::from(exponent))
+}
+
+/// Each row of n bytes is below the next.
+pub fn ascends(n: usize, table: &[u8]) -> bool {
+    match n {
+        1 => rows_ascend::<1>(table),
+        2 => rows_ascend::<2>(table),
+        3 => rows_ascend::<3>(table),
+        4 => rows_ascend::<4>(table),
+        5 => rows_ascend::<5>(table),
+        _ => rows_ascend::<6>(table),
+    }
+}
+
+fn rows_ascend<const N: usize>(table: &[u8]) -> bool {
+    let rows = table.chunks_exact(N).map(pack::<N>);
+    rows.clone().zip(rows.skip(1)).fold(true, |ascend, (row, next)| ascend & (row < next))
+}
+
+/// No entry is above 50. The largest is taken without an early end, so that many are looked at side by side.
+pub fn entries_are_small(bytes: &[u8]) -> bool {
+    bytes.iter().fold(0, |largest, &entry| largest.max(entry)) <= 50
 }
 
 /// Writes words as rows of n bytes to the buffer's front.

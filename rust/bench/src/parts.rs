@@ -1,6 +1,6 @@
 //! The parts of the report. Before a job is timed its results are compared, so that only right programs are measured.
 
-use crate::measure::{hidden, keep, side_by_side, Job};
+use crate::measure::{hidden, keep, side_by_side, side_by_side_on_the_wall, Job};
 use crate::print::{head, line, time, Limit};
 use crate::tables::{ascending, bundle, completed_near, of_degree, powers, random, Numbers};
 use std::io::Write;
@@ -52,7 +52,7 @@ fn one_completion(name: &str, n: usize, table: &[u8]) -> bool {
 }
 
 /// Find: 10,000 queries on tables of about 1,024, 2,048 and 4,096 rows.
-pub fn find() {
+pub fn find() -> bool {
     head("find, 10,000 queries", &["checked", "descent", "scan"]);
     for n in [3, 4, 6] {
         for (rows, largest) in [(1024, &[60][..]), (2048, &[60]), (4096, &[60, 255])] {
@@ -63,6 +63,7 @@ pub fn find() {
         one_find(&format!("n={n}, completed"), n, &completed_near(n, 4096), &[60, 255]);
     }
     println!("ours checks the table at each call; so does 'checked', while 'descent' and 'scan' do not");
+    true
 }
 
 fn one_find(name: &str, n: usize, table: &[u8], largest: &[usize]) {
@@ -198,7 +199,7 @@ pub fn count() -> bool {
 }
 
 /// Opening the last table of a bundle.
-pub fn open() {
+pub fn open() -> bool {
     head("open the last of 16 tables", &["plain", "second"]);
     for bytes in [16_384, 32_768, 65_535] {
         let bytes = bundle(3, bytes, 51);
@@ -212,6 +213,7 @@ pub fn open() {
         let times = side_by_side(&mut jobs);
         line(&format!("{} bytes", bytes.len()), &times, 1, Limit::None);
     }
+    true
 }
 
 /// The program `janet` whole, with the start of a process, beside the programs `baseline` and `second`.
@@ -226,7 +228,7 @@ pub fn janet(programs: [&Path; 3]) -> bool {
         assert!(written.iter().all(|text| *text == written[0]), "the programs write different listings");
         let mut jobs: Vec<Job> =
             programs.iter().map(|program| Box::new(|| drop(run(program, &bytes))) as Job).collect();
-        let times = side_by_side(&mut jobs);
+        let times = side_by_side_on_the_wall(&mut jobs);
         let name = format!("{name}, {} to {} bytes", bytes.len(), written[0].len());
         kept &= line(&name, &times, 1, Limit::Seconds(1.0));
     }

@@ -1,9 +1,9 @@
 //! Times of the library, through its archive, beside quick plain Rust (`baseline`) and a naive program (`second`).
 //!
 //! `bench [--janet PATH] [PART ..]`, a part being completion, find, marks, count or open; all of them where none is named.
-//! Each time is the median of several rounds in which all programs take turns, in processor time (whole runs: by the wall). The ratio is ours to the quickest plain
-//! program's; a line that ends in OVER breaks the limit that the issues name. With `--janet` the program is run whole,
-//! beside the programs `baseline` and `second`, which are looked for beside `bench` itself.
+//! Each time is the median of several rounds in which all programs take turns, in processor time. The ratio is ours to the
+//! quickest plain program's; a line that ends in OVER breaks the limit that the issues name. With `--janet` the program is
+//! run whole, timed by the wall, beside the programs `baseline` and `second`, which are looked for beside `bench` itself.
 
 mod measure;
 mod parts;
@@ -14,8 +14,11 @@ use std::env;
 use std::path::PathBuf;
 use std::process::exit;
 
-/// The parts that can be named, in the order in which they are run; each says whether its limits are kept.
-const PARTS: [(&str, fn() -> bool); 5] = [
+/// A part of the report; it says whether its limits are kept.
+type Part = fn() -> bool;
+
+/// The parts that can be named, in the order in which they are run.
+const PARTS: [(&str, Part); 5] = [
     ("completion", parts::completion),
     ("find", parts::find),
     ("marks", parts::marks),

@@ -1,19 +1,33 @@
-//! Marks of ascending rows, find by a scan of all rows, find by a descent through ranges of rows.
+//! Marks of ascending rows and of others, find by a scan of all rows, find by a descent through ranges of rows.
 
-/// The marks of strictly ascending rows, from the last row to the first. Where a row and the next first differ, the row
-/// has no mark; before that place it has the next row's marks, behind it all.
+use crate::packed::pack_all;
+
+/// The marks of ascending rows, from the last row to the first. Where a row and the next first differ, the row has no mark;
+/// before that place it has the next row's marks, behind it all. A row that equals the next has its marks.
 pub fn ascending_marks(n: usize, table: &[u8], marks: &mut [u8]) {
     let all = ((1u32 << n) - 1) as u8;
     let mut next: Option<(&[u8], u8)> = None;
     for (row, mark) in table.chunks_exact(n).zip(marks.iter_mut()).rev() {
         let own = next.map_or(all, |(after, later)| {
-            let differs = row.iter().zip(after).position(|(a, b)| a != b).unwrap_or(n - 1);
+            let differs = row.iter().zip(after).position(|(a, b)| a != b).unwrap_or(n);
             let before = (1u32 << differs) - 1;
             let behind = u32::from(all) & !((2u32 << differs) - 1);
             (u32::from(later) & before | behind) as u8
         });
         *mark = own;
         next = Some((row, own));
+    }
+}
+
+/// The marks of rows in any order, equal ones among them: the rows are sorted, and equal rows have equal marks.
+pub fn unsorted_marks(n: usize, table: &[u8], marks: &mut [u8]) {
+    let mut order: Vec<(u64, usize)> = pack_all(n, table).into_iter().zip(0..).collect();
+    order.sort_unstable();
+    let rows: Vec<u8> = order.iter().flat_map(|&(_, row)| &table[row * n..(row + 1) * n]).copied().collect();
+    let mut sorted = vec![0; order.len()];
+    ascending_marks(n, &rows, &mut sorted);
+    for (&(_, row), mark) in order.iter().zip(sorted) {
+        marks[row] = mark;
     }
 }
 

@@ -48,6 +48,9 @@ fn marks_find_and_count_agree() {
     for round in 0..1500 {
         let n = 1 + round % 6;
         let given = table(&mut numbers, n);
+        let mut unsorted = vec![0; given.len() / n];
+        division::unsorted_marks(n, &given, &mut unsorted);
+        assert_eq!(unsorted, all_marks(n, &checked_rows(n, &given).expect("valid")), "{given:?}");
         let full = match expected(n, &given, 400) {
             Some(full) => full,
             None => continue,

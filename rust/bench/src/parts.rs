@@ -165,16 +165,17 @@ fn one_marks(name: &str, n: usize, table: &[u8], limit: Limit) -> bool {
 }
 
 fn unsorted_marks(name: &str, n: usize, table: &[u8]) -> bool {
-    let mut buffers = [vec![0; table.len() / n], vec![0; table.len() / n]];
-    let [ours, naive] = &mut buffers;
+    let mut buffers = [vec![0; table.len() / n], vec![0; table.len() / n], vec![0; table.len() / n]];
+    let [ours, plain, naive] = &mut buffers;
     let mut jobs: Vec<Job> = vec![
         Box::new(|| rocaplanh::marks(n, hidden(table), ours).expect("a sound table")),
+        Box::new(|| baseline::division::unsorted_marks(n, hidden(table), plain)),
         Box::new(|| second::operations::marks(n, hidden(table), naive).expect("a sound table")),
     ];
     let times = side_by_side(&mut jobs);
     drop(jobs);
-    assert_eq!(buffers[0], buffers[1]);
-    line(name, &[times[0], times[1], times[1]], 1, Limit::Seconds(0.05))
+    assert!(buffers[0] == buffers[2] && buffers[1] == buffers[2]);
+    line(name, &times, 1, Limit::Seconds(0.05))
 }
 
 /// One count with all its checks.

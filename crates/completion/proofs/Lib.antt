@@ -7,4 +7,7 @@ pub mod LimitLaws
 pub mod WalkLaws
 pub mod BufferLaws
 pub mod OperationLaws
+pub mod CodeBytes
+pub mod CodeRows
+pub mod CodeLevel
 pub mod Examples

@@ -10,4 +10,5 @@ pub mod OperationLaws
 pub mod CodeBytes
 pub mod CodeRows
 pub mod CodeLevel
+pub mod CodeStep
 pub mod Examples

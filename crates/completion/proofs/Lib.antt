@@ -11,4 +11,5 @@ pub mod CodeBytes
 pub mod CodeRows
 pub mod CodeLevel
 pub mod CodeStep
+pub mod CodeOperation
 pub mod Examples

@@ -6,6 +6,8 @@
 --   Appended             what `level` does: the completed table behind a front, at the end of what is written
 --   Standing             the code's walk after the heads below a is the model's
 --   Stepped              what `step` does: the walk goes on by one head
+--   Roomy                sizes that fit, and room in both arrays
+--   Collects, Collected  what `collect` asks and does: the completed table of a table, from the front of an array on
 use mathlib.Core.Path.{_≡_}
 use mathlib.Core.List.{List, [], _∷_, _++_, map}
 use Prim.Native.Nat.{ℕ, zero, suc, _+_, _*_, _-_, _≤_, _<_}
@@ -13,6 +15,7 @@ use lib.ListN.{length, take, drop, set}
 use Rattle.terms.specs.Monomials.{Monomial, Table}
 use Rattle.terms.specs.Rows.{firstRows, flat}
 use Rattle.completion.specs.Slices.{Walk, walk, slices, after, fit}
+use Rattle.completion.specs.Operation.{completedOf}
 use Rattle.completion.specs.declared.Progress.{Progress}
 
 abbrev pub part : ℕ → ℕ → ℕ → List ℕ → Table
@@ -58,3 +61,16 @@ pub record Roomy (n rest rows : ℕ) (work out : List ℕ) (room at : ℕ) : Typ
   pub holds : room * n ≤ length out
   pub most : room ≤ 4096
   pub starts : at ≤ room
+
+-- a table that no check refused, and an array for its completed rows
+pub record Collects (n : ℕ) (table : List ℕ) (rows : ℕ) (out : List ℕ) (room : ℕ) : Type 0 where
+  pub some : 0 < n
+  pub few : n ≤ 6
+  pub whole : length table ≡ rows * n
+  pub limited : rows ≤ 4096
+  pub holds : room * n ≤ length out
+  pub most : room ≤ 4096
+
+pub record Collected (n : ℕ) (table : List ℕ) (room r : ℕ) (out : List ℕ) : Type 0 where
+  pub end : r ≡ fit room (length (completedOf n table))
+  pub written : r ≤ room → take (r * n) out ≡ flat (completedOf n table)

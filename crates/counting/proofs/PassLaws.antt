@@ -99,7 +99,9 @@ pub known-none : (s : ℕ) → Known s (replicate 2107 0)
 known-none s = record { long = length-replicate {A = ℕ} 2107 0; right = λ d m h g. inl (zeros-at (d * 7 + m)) }
   where
     zeros-at : (i : ℕ) → _≡_ {A = ℕ} (getD (replicate 2107 0) i 0) 0
-    zeros-at i = by-cases (decLt i 2107) (λ l. getD-replicate 2107 i 0 0 l) (λ g. List·getD-eq-default (replicate 2107 0) 0 {n = i} (rw length-replicate (omega arith)))
+    zeros-at i = by-cases (decLt i 2107)
+        (λ l. getD-replicate 2107 i 0 0 l)
+        (λ g. List·getD-eq-default (replicate 2107 0) 0 {n = i} (rw length-replicate (omega arith)))
 
 -- a share is stored at its own place, and no other share has that place
 pub known-set : (s : ℕ) (known : List ℕ) (d m v : ℕ) → Known s known → m ≤ 6 → d * 7 + m < 2107 → v ≡ shareSize s d m → Known s (set known (d * 7 + m) v)
@@ -110,7 +112,10 @@ known-set s known d m v k few l e = record { long = length-set known (d * 7 + m)
         (λ same.
         let x : a ≡ d = omega arith in
         let y : b ≡ m = omega arith in
-        inr (ap (λ (i : ℕ). getD (set known (d * 7 + m) v) i 0) same ∙ getD-set-same known (d * 7 + m) v 0 (omega (arith, k .long)) ∙ e ∙ sym (ap₂ (shareSize s) x y)))
+        inr (ap (λ (i : ℕ). getD (set known (d * 7 + m) v) i 0) same
+        ∙ getD-set-same known (d * 7 + m) v 0 (omega (arith, k .long))
+        ∙ e
+        ∙ sym (ap₂ (shareSize s) x y)))
         (λ other. let o = getD-set-other known (d * 7 + m) (a * 7 + b) v 0 other in ⊎-elim (λ z. inl (o ∙ z)) (λ z. inr (o ∙ z)) (k .right a b h g))
 
 -- what is found there is the share

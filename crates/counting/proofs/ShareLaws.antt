@@ -1,7 +1,8 @@
 -- Laws of a cone's share: how many monomials of degree at most s lie in the cone of a row.
 --
 --   size s d m       the share by steps: each degree of the row lowers s by one
---   share-size       it is the share of rule 7
+--   share-inside, share-outside, share-unmarked   the cases of rule 7
+--   share-size       the share by steps is the share of rule 7
 --   coneTest ks u q  q is in the cone of u, variable by variable; ks has a Boolean for each variable: marked or not
 --   tests-cone       that test agrees with rule 3
 --   cone-count       the share is the number of monomials up to s in the cone
@@ -19,7 +20,7 @@ use borrow.Author.Tests.{le-leb, lt-leb}
 use lib.Dec.{T}
 use lib.ListN.{length, getD}
 use Rattle.binomial.specs.Choose.{choose}
-use Rattle.binomial.proofs.ChooseLaws.{choose-self}
+use Rattle.binomial.proofs.ChooseLaws.{choose-self, choose-none}
 use Rattle.terms.specs.Tests.{Tests, pick, tests-as, tests-and}
 use Rattle.terms.specs.Monomials.{Monomial, _!_, degree}
 use Rattle.division.proofs.Facade.{marksCount}
@@ -49,6 +50,10 @@ size-outside (suc s) (suc d) m h = size-outside s d m (le-of-suc-le-suc h)
 pub share-inside : (s d m : ℕ) → d ≤ s → share s d m ≡ choose (s - d + m) m
 unfolding share
 share-inside s d m h = rw (le-leb d s h)
+
+-- with no mark a row takes away 1
+pub share-unmarked : (s d : ℕ) → d ≤ s → share s d 0 ≡ 1
+share-unmarked s d h = share-inside s d 0 h ∙ choose-none (s - d + 0)
 
 pub share-outside : (s d m : ℕ) → s < d → share s d m ≡ 0
 unfolding share

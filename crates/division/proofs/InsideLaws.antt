@@ -2,6 +2,7 @@
 --
 --   first-stops, first-goes-on, first-past   the search for the first row that divides, from a row on
 --   divides-first          firstDivisor is the first row number whose row divides the query, none exactly where the query is outside the ideal
+--   inside-found           there is one exactly where the query is in the ideal
 --   divides-padded         a query that is filled up to six exponents is divided by the same rows
 --   inside-unique          two answers that the promise allows are equal
 --   inside-accepts, inside-refuses   where no check refuses: the first row that divides; where one does: its number
@@ -20,16 +21,17 @@ use native.Mathlib.Decide.{ℕ-discrete}
 use native.Mathlib.Omega.{arith}
 use lib.ListN.{length, drop, take, drop-of-length-le}
 use lib.Seq.{drop-cons, take-all}
-use Rattle.terms.specs.Tests.{Tests, pick, tests-as, tests-same}
+use Rattle.terms.specs.Tests.{Tests, pick, tests-as, tests-same, tests-true, tests-false}
 use Rattle.terms.specs.Monomials.{Monomial, Table, rowAt}
-use Rattle.terms.specs.Ideal.{Divides, dividesTest}
+use Rattle.terms.specs.Ideal.{Divides, dividesTest, insideTest}
 use Rattle.terms.specs.Rows.{rows, padded, asRow}
 use Rattle.terms.specs.Refusals.{refusal, tableChecks}
 use Rattle.terms.specs.declared.RowNumber.{RowNumber}
-use Rattle.terms.proofs.IdealLaws.{tests-divides}
-use Rattle.terms.proofs.RowsLaws.{length-rows, rows-at, padded-at, member-index}
+use Rattle.terms.proofs.IdealLaws.{tests-divides, tests-inside}
+use Rattle.terms.proofs.RowsLaws.{length-rows, rows-at, padded-at, member-at, member-index}
 use Rattle.terms.proofs.RefusalLaws.{accepted, refusal-holds, refusal-passes, refusal-append, refusal-first, TableAccepted, table-accepted}
 use Rattle.division.specs.Ranges.{foundRow}
+use Rattle.division.specs.Scan.{foundTest}
 use Rattle.division.specs.Operations.{lengthCheck}
 use Rattle.division.specs.Inside.{firstFrom, firstDivisor, FirstDividing, DividesFirst, insideChecks, insideNumber, insideRow, insideGives, insideCase, insideAnswer, InsidePromise}
 use Rattle.division.specs.declared.inside.InsideAnswer.{InsideAnswer}
@@ -94,6 +96,14 @@ divides-first G q = go (firstFrom 0 G q) (first-of G q 0)
     go : (o : Option ℕ) → FirstOf G q 0 o → DividesFirst G q o
     go none h = λ i. let p = member-index G [] (i .row) (i .member) in h (p .0) (p .1) (subst (λ (u : Monomial). Divides u q) (sym (p .2)) (i .divides))
     go (some s) h = let e : h .0 ≡ s = omega (arith, h .1) in subst (λ (i : ℕ). FirstDividing G q i) e (h .2)
+
+-- so there is one exactly where q is in the ideal
+pub inside-found : (G : Table) (q : Monomial) → insideTest G q ≡ foundTest (firstDivisor G q)
+inside-found G q = go (firstDivisor G q) (divides-first G q)
+  where
+    go : (o : Option ℕ) → DividesFirst G q o → insideTest G q ≡ foundTest o
+    go none h = sym (tests-false (tests-inside G q) h)
+    go (some r) d = sym (tests-true (tests-inside G q) (record { row = rowAt G r; member = member-at G [] r (d .within); divides = d .divides }))
 
 -- ---- the query as a row
 

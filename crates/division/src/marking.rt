@@ -53,7 +53,7 @@ fn mark_listed(n: usize, table: &[u8], order: &[usize], buffer: &mut [u8])
     let mut k = count - 1;
     let mut marks = all;
     let mut row = order[k];
-    buffer[row] = marks;
+    buffer[row] = all;
     while 0 < k {
         let next = row;
         row = order[k - 1];
@@ -103,9 +103,9 @@ fn marks_refusal(n: usize, table: &[u8], size: usize) -> u8
 pub fn marks(n: usize, table: &[u8], buffer: &mut [u8]) -> MarksAnswer
     ensures { λ r. ⌜ MarksPromise n (now (table .entry)) (now (buffer .entry)) r (now (buffer .exit)) ⌝ }
 {
-    let refused = marks_refusal(n, table, buffer.len());
-    if refused != 0 {
-        return MarksAnswer::Refused(refused);
+    let number = marks_refusal(n, table, buffer.len());
+    if number != 0 {
+        return MarksAnswer::Refused(number);
     }
     mark_rows(n, table, buffer);
     MarksAnswer::Done

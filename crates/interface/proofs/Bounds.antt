@@ -1,6 +1,7 @@
 -- The answers are small, so that each fits the number in which it is handed out.
 --
 --   row-small, inside-small   a row number that find or inside gives is below 4,096
+--   count-small     there are at most 4,096 completed rows
 --   steps-small     steps are at most 256 for each variable
 --   steady-small    a steady degree is at most 300
 --   located-small   n, row count and place of an opened table are below 65,536
@@ -8,6 +9,7 @@ use mathlib.Core.Path.{_≡_, refl, sym, ap, _∙_}
 use mathlib.Core.List.{List, [], _∷_, List·Memᴰ·head}
 use mathlib.Core.Logic.{by-cases}
 use Prim.Native.Nat.{ℕ, suc, _*_, _≤_, _<_}
+use native.Mathlib.Nat.{le-trans}
 use native.Mathlib.Decide.{ℕ-discrete, decLt}
 use native.Mathlib.Omega.{arith}
 use borrow.Author.Tests.{eq-eqb, ne-eqb}
@@ -28,6 +30,9 @@ use Rattle.division.specs.Inside.{InsidePromise, DividesFirst, firstDivisor, in
 use Rattle.division.specs.declared.inside.InsideAnswer.the-variants as inside
 use Rattle.division.proofs.InsideLaws.{inside-unique, inside-accepts, divides-first}
 use Rattle.terms.proofs.RefusalLaws.{table-accepted}
+use Rattle.completion.specs.Operation.{CompletePromise, roomFor}
+use Rattle.completion.specs.declared.CompleteAnswer.the-variants as complete
+use Rattle.completion.proofs.OperationLaws.{complete-count, accepted-room, room-limited}
 use Rattle.division.proofs.FindLaws.{find-finds, find-steps, find-ready, find-length}
 use Rattle.counting.specs.Operations.{SteadyPromise, steadyChecks, steadyValue}
 use Rattle.counting.specs.declared.SteadyAnswer.the-variants as steady
@@ -121,3 +126,8 @@ inside-small n table query r p =
     gives : (o : Option ℕ) → insideRow (insideGives o) ≡ o
     gives none = refl
     gives (some r) = refl
+
+-- ---- complete
+
+pub count-small : (n : ℕ) (table buffer : List ℕ) (k : ℕ) (after : List ℕ) → CompletePromise n table buffer (complete.Rows k) after → k ≤ 4096
+count-small n table buffer k after p = le-trans (omega (arith, complete-count p, accepted-room n table (length buffer) (sym (p .number)))) (room-limited n (length buffer))

@@ -13,6 +13,8 @@ use Rattle.division.specs.declared.marking.MarksAnswer.{MarksAnswer}
 use Rattle.division.specs.Inside.{InsidePromise, insideNumber}
 use Rattle.division.specs.declared.inside.InsideAnswer.{InsideAnswer}
 use Rattle.division.specs.declared.inside.InsideAnswer.the-variants as inside
+use Rattle.completion.specs.Operation.{CompletePromise, completeNumber, completeRows}
+use Rattle.completion.specs.declared.CompleteAnswer.{CompleteAnswer}
 use Rattle.division.specs.Operations.{FindPromise, findNumber, findSteps}
 use Rattle.division.specs.declared.finding.FindAnswer.{FindAnswer}
 use Rattle.division.specs.declared.finding.FindAnswer.the-variants as find
@@ -38,6 +40,12 @@ pub record InsideExport (n : ℕ) (table query : List ℕ) (number row : ℕ) : 
   pub promise : InsidePromise n table query answer
   pub returned : number ≡ insideNumber answer
   pub found : row ≡ insideOut answer
+
+pub record CompleteExport (n : ℕ) (table buffer : List ℕ) (number count : ℕ) (after : List ℕ) : Type 0 where
+  pub answer : CompleteAnswer
+  pub promise : CompletePromise n table buffer answer after
+  pub returned : number ≡ completeNumber answer
+  pub counted : count ≡ completeRows answer
 
 -- the row number, 65,535 for none
 abbrev pub rowOut : FindAnswer → ℕ

@@ -2,6 +2,8 @@
 // through a reference are answers, and become 0 on a refusal; lent buffers keep their bytes then. include/rocaplanh.h has the
 // declarations.
 use bundle::locate;
+use completion::CompleteAnswer;
+use completion::complete;
 use counting::CountAnswer;
 use counting::PolynomialAnswer;
 use counting::SteadyAnswer;
@@ -15,7 +17,7 @@ use division::inside::inside;
 use division::marking::MarksAnswer;
 use division::marking::marks;
 use terms::Degree;
-ghost use Rattle.interface.specs.Exports.{MarksExport, InsideExport, FindExport, CountExport, PolynomialExport, SteadyExport, OpenExport};
+ghost use Rattle.interface.specs.Exports.{MarksExport, InsideExport, CompleteExport, FindExport, CountExport, PolynomialExport, SteadyExport, OpenExport};
 
 // What stands for 'no row'.
 pub const NO_ROW: u32 = 65535;
@@ -50,6 +52,24 @@ pub extern "C" fn rocaplanh_inside(n: usize, table: &[u8], query: &[u8], row: &m
         }
         InsideAnswer::Refused(m) => {
             *row = 0;
+            m as u32
+        }
+    }
+}
+
+// The completed table at the front of the lent buffer, and the number of its rows.
+#[no_mangle]
+pub extern "C" fn rocaplanh_complete(n: usize, table: &[u8], buffer: &mut [u8], count: &mut u32) -> u32
+    ensures { λ r. ⌜ CompleteExport n (now (table .entry)) (now (buffer .entry)) r (now (count .exit)) (now (buffer .exit)) ⌝ }
+{
+    let answer = complete(n, table, buffer);
+    match answer {
+        CompleteAnswer::Rows(k) => {
+            *count = k as u32;
+            0
+        }
+        CompleteAnswer::Refused(m) => {
+            *count = 0;
             m as u32
         }
     }

@@ -28,7 +28,7 @@ use Rattle.completion.specs.declared.CompleteAnswer.{CompleteAnswer}
 use Rattle.completion.specs.declared.CompleteAnswer.the-variants.{Rows, Refused}
 use Rattle.completion.proofs.CompletedLaws.{completed-table, completed-unique}
 use Rattle.completion.proofs.CompletionLaws.{completion-ideal, completion-complete, completion-one, completion-none, completion-size}
-use Rattle.completion.proofs.OperationLaws.{complete-unique, complete-accepts, complete-refuses, complete-count, complete-rows, complete-behind, complete-kept, room-enough, no-room, accepted-room}
+use Rattle.completion.proofs.OperationLaws.{complete-unique, complete-accepts, complete-refuses, complete-count, complete-rows, complete-behind, complete-kept, room-enough, no-room, accepted-room, room-limited}
 use Rattle.counting.specs.Counts.{countAt}
 use Rattle.counting.specs.Operations.{CountPromise, countChecks, countNumber, countValue, tests-notAscending, tests-notComplete}
 use Rattle.counting.specs.declared.CountAnswer.{CountAnswer}
@@ -65,11 +65,6 @@ accepts-append : (earlier : List Check) {checks : List Check} → Accepts earlie
 accepts-append [] a b = b
 accepts-append (c ∷ earlier) {checks} a b =
     accepts-cons c (earlier ++ checks) (a c (List·Memᴰ·head refl)) (accepts-append earlier (λ d m. a d (List·Memᴰ·tail m)) b)
-
--- there is never room for more than 4,096 rows
-room-limited : (n size : ℕ) → roomFor n size ≤ 4096
-unfolding roomFor
-room-limited n size = min-le-left 4096 (size / n)
 
 -- a refused completion leaves the buffer
 complete-leaves : (n : ℕ) (table buffer : List ℕ) (answer : CompleteAnswer) (after : List ℕ) → CompletePromise n table buffer answer after

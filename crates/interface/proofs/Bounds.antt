@@ -30,7 +30,7 @@ use Rattle.division.specs.Inside.{InsidePromise, DividesFirst, firstDivisor, in
 use Rattle.division.specs.declared.inside.InsideAnswer.the-variants as inside
 use Rattle.division.proofs.InsideLaws.{inside-unique, inside-accepts, divides-first}
 use Rattle.terms.proofs.RefusalLaws.{table-accepted}
-use Rattle.completion.specs.Operation.{CompletePromise, roomFor}
+use Rattle.completion.specs.Operation.{CompletePromise}
 use Rattle.completion.specs.declared.CompleteAnswer.the-variants as complete
 use Rattle.completion.proofs.OperationLaws.{complete-count, accepted-room, room-limited}
 use Rattle.division.proofs.FindLaws.{find-finds, find-steps, find-ready, find-length}

@@ -1,0 +1,139 @@
+// The text that the program writes, as bytes in a lent buffer. Each writer puts its text from a place on, leaves every
+// other byte as it was, and answers the place behind the text.
+use terms::Degree;
+use terms::Row;
+use terms::RowNumber;
+ghost use mathlib.Core.List.{[], _∷_, _++_};
+ghost use Prim.Native.Nat.{_+_, _≤_, _<_};
+ghost use lib.ListN.{length, take};
+ghost use Rattle.terms.specs.Rows.{rows};
+ghost use Rattle.counting.specs.Counts.{steadyOf};
+ghost use Rattle.listing.specs.Text.{decimal, space, tableLine, rowLine, steadyLine, noRoomLine, refusalLine, rowLines, wholeText};
+ghost use Rattle.listing.specs.Written.{Wrote, spaced};
+
+// Writes one byte.
+fn put_byte(out: &mut [u8], at: usize, byte: u8) -> usize
+    requires { ⌜ at < length (now out) ⌝ }
+    ensures { λ r. ⌜ Wrote (now (out .entry)) at (byte ∷ []) r (now (out .exit)) ⌝ }
+{
+    out[at] = byte;
+    at + 1
+}
+
+// Writes a number in decimal digits.
+fn put_number(out: &mut [u8], at: usize, x: usize) -> usize
+    requires { ⌜ at + length (decimal x) ≤ length (now out) ⌝ }
+    ensures { λ r. ⌜ Wrote (now (out .entry)) at (decimal x) r (now (out .exit)) ⌝ }
+{
+    if x < 10 {
+        return put_byte(out, at, (48 + x) as u8);
+    }
+    let next = put_number(out, at, x / 10);
+    put_byte(out, next, (48 + x % 10) as u8)
+}
+
+// Writes one space and a number.
+fn put_field(out: &mut [u8], at: usize, x: usize) -> usize
+    requires { ⌜ at + length (space ∷ decimal x) ≤ length (now out) ⌝ }
+    ensures { λ r. ⌜ Wrote (now (out .entry)) at (space ∷ decimal x) r (now (out .exit)) ⌝ }
+{
+    let next = put_byte(out, at, b' ');
+    put_number(out, next, x)
+}
+
+// Writes an exponent and one space.
+fn put_exponent(out: &mut [u8], at: usize, e: u8) -> usize
+    requires { ⌜ at + length (decimal e ++ (space ∷ [])) ≤ length (now out) ⌝ }
+    ensures { λ r. ⌜ Wrote (now (out .entry)) at (decimal e ++ (space ∷ [])) r (now (out .exit)) ⌝ }
+{
+    let next = put_number(out, at, e as usize);
+    put_byte(out, next, b' ')
+}
+
+// Writes the exponents of a row, each with one space behind it.
+fn put_exponents(out: &mut [u8], at: usize, u: Row) -> usize
+    requires { ⌜ (u .n ≤ 6) × (at + length (spaced (take (u .n) (u .exponents))) ≤ length (now out)) ⌝ }
+    ensures { λ r. ⌜ Wrote (now (out .entry)) at (spaced (take (u .n) (u .exponents))) r (now (out .exit)) ⌝ }
+{
+    let exponents = u.exponents;
+    let n = u.n;
+    let mut next = at;
+    let mut i = 0;
+    while i < n {
+        next = put_exponent(out, next, exponents[i]);
+        i += 1;
+    }
+    next
+}
+
+// Writes the line of a completed row: its exponents, `:` and its marks.
+fn put_row_line(out: &mut [u8], at: usize, u: Row, marks: u8) -> usize
+    requires { ⌜ (u .n ≤ 6) × (at + length (rowLine (take (u .n) (u .exponents)) marks) ≤ length (now out)) ⌝ }
+    ensures { λ r. ⌜ Wrote (now (out .entry)) at (rowLine (take (u .n) (u .exponents)) marks) r (now (out .exit)) ⌝ }
+{
+    let exponents_end = put_exponents(out, at, u);
+    let colon_end = put_byte(out, exponents_end, b':');
+    let marks_end = put_field(out, colon_end, marks as usize);
+    put_byte(out, marks_end, b'\n')
+}
+
+// Writes the lines of the rows of a table, whose marks stand in their order at the front of `marks`.
+fn put_rows(out: &mut [u8], at: usize, n: usize, table: &[u8], marks: &[u8]) -> usize
+    requires { ⌜ (0 < n) × (n ≤ 6) × (length (rows n (now table)) ≤ length (now marks)) × (at + length (rowLines (rows n (now table)) (now marks) (length (rows n (now table)))) ≤ length (now out)) ⌝ }
+    ensures { λ r. ⌜ Wrote (now (out .entry)) at (rowLines (rows n (now (table .entry))) (now (marks .entry)) (length (rows n (now (table .entry))))) r (now (out .exit)) ⌝ }
+{
+    let count = table.len() / n;
+    let mut next = at;
+    let mut k = 0;
+    while k < count {
+        let u = terms::row_at(table, n, RowNumber(k));
+        next = put_row_line(out, next, u, marks[k]);
+        k += 1;
+    }
+    next
+}
+
+// Writes the first line of a table: `T`, its number, how many rows were given, and how many the completed table has.
+fn put_table_line(out: &mut [u8], at: usize, j: usize, given: usize, made: usize) -> usize
+    requires { ⌜ at + length (tableLine j given made) ≤ length (now out) ⌝ }
+    ensures { λ r. ⌜ Wrote (now (out .entry)) at (tableLine j given made) r (now (out .exit)) ⌝ }
+{
+    let letter_end = put_byte(out, at, b'T');
+    let number_end = put_field(out, letter_end, j);
+    let given_end = put_field(out, number_end, given);
+    let made_end = put_field(out, given_end, made);
+    put_byte(out, made_end, b'\n')
+}
+
+// Writes the last line of a table: `S` and the steady degree.
+fn put_steady_line(out: &mut [u8], at: usize, steady: Degree) -> usize
+    requires { ⌜ at + length (steadyLine (steady .0)) ≤ length (now out) ⌝ }
+    ensures { λ r. ⌜ Wrote (now (out .entry)) at (steadyLine (steady .0)) r (now (out .exit)) ⌝ }
+{
+    let letter_end = put_byte(out, at, b'S');
+    let steady_end = put_field(out, letter_end, steady.0);
+    put_byte(out, steady_end, b'\n')
+}
+
+// Writes the only line of a table whose completion is refused for room: `T`, its number, `R` and 8.
+fn put_no_room_line(out: &mut [u8], at: usize, j: usize) -> usize
+    requires { ⌜ at + length (noRoomLine j) ≤ length (now out) ⌝ }
+    ensures { λ r. ⌜ Wrote (now (out .entry)) at (noRoomLine j) r (now (out .exit)) ⌝ }
+{
+    let letter_end = put_byte(out, at, b'T');
+    let number_end = put_field(out, letter_end, j);
+    let space_end = put_byte(out, number_end, b' ');
+    let refused_end = put_byte(out, space_end, b'R');
+    let eight_end = put_field(out, refused_end, 8);
+    put_byte(out, eight_end, b'\n')
+}
+
+// Writes the only line of a refused bundle: `R` and the number.
+fn put_refusal_line(out: &mut [u8], at: usize, number: u8) -> usize
+    requires { ⌜ at + length (refusalLine number) ≤ length (now out) ⌝ }
+    ensures { λ r. ⌜ Wrote (now (out .entry)) at (refusalLine number) r (now (out .exit)) ⌝ }
+{
+    let letter_end = put_byte(out, at, b'R');
+    let number_end = put_field(out, letter_end, number as usize);
+    put_byte(out, number_end, b'\n')
+}

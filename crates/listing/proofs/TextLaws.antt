@@ -1,7 +1,12 @@
 -- Laws of numbers and lines as text.
 --
 --   decimal-one, decimal-more   a number below 10 is one digit; another is the number of its tens and then one digit
---   decimal-short          a number below 10, 100, 1,000, 10,000 has at most one, two, three, four digits
+--   number-one, number-more     so a number is written digit by digit
+--   field x                one space and a number
+--   tableLine-parts ..     each line as it is written, part by part; tableLine-length ..: how long it is
+--   spaced-next, -part, -fits   the exponents of a row, one after the other
+--   rowLines-next, -part, -fits the lines of the rows, one after the other
+--   row-read, row-variables     a row that was read from a table has its exponents and its n
 use mathlib.Core.Path.{_≡_, refl, sym, ap, _∙_}
 use mathlib.Core.List.{List, [], _∷_, _++_, map, append-assoc}
 use mathlib.Core.Logic.{by-cases, ⊎-elim}

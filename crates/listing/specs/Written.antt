@@ -18,6 +18,5 @@ pub record Wrote (before : List ℕ) (at : ℕ) (text : List ℕ) (end : ℕ) (a
   pub bytes : after ≡ written before at text
 
 unfoldable pub spaced : Monomial → List ℕ
-unfolding decimal
 spaced [] = []
 spaced (e ∷ u) = decimal e ++ (space ∷ spaced u)

@@ -6,10 +6,14 @@ use terms::RowNumber;
 ghost use mathlib.Core.List.{[], _∷_, _++_};
 ghost use Prim.Native.Nat.{_+_, _≤_, _<_};
 ghost use lib.ListN.{length, take};
+ghost use Rattle.terms.specs.Order.{Ascending};
 ghost use Rattle.terms.specs.Rows.{rows};
 ghost use Rattle.counting.specs.Counts.{steadyOf};
-ghost use Rattle.listing.specs.Text.{decimal, space, tableLine, rowLine, steadyLine, noRoomLine, refusalLine, rowLines, wholeText};
+ghost use Rattle.listing.specs.Text.{decimal, space, tableLine, rowLine, steadyLine, noRoomLine, refusalLine, rowLines, wholeText, completedText};
 ghost use Rattle.listing.specs.Written.{Wrote, spaced};
+
+// The most bytes that the text of a table needs: 23 for the line of each of 4,096 rows, 15 for the first line, 6 for the last.
+pub const TEXT_SIZE: usize = 94229;
 
 // Writes one byte.
 fn put_byte(out: &mut [u8], at: usize, byte: u8) -> usize
@@ -136,4 +140,26 @@ fn put_refusal_line(out: &mut [u8], at: usize, number: u8) -> usize
     let letter_end = put_byte(out, at, b'R');
     let number_end = put_field(out, letter_end, number as usize);
     put_byte(out, number_end, b'\n')
+}
+
+// Writes the text of table j from the start, from its completed table and the marks of that table's rows.
+fn put_whole(out: &mut [u8], j: usize, given: usize, n: usize, table: &[u8], marks: &[u8]) -> usize
+    requires { ⌜ (0 < n) × (n ≤ 6) × (length (rows n (now table)) ≤ length (now marks)) × (length (wholeText j given (rows n (now table)) (now marks) (steadyOf (rows n (now table)))) ≤ length (now out)) ⌝ }
+    ensures { λ r. ⌜ Wrote (now (out .entry)) 0 (wholeText j given (rows n (now (table .entry))) (now (marks .entry)) (steadyOf (rows n (now (table .entry))))) r (now (out .exit)) ⌝ }
+{
+    let made = table.len() / n;
+    let line_end = put_table_line(out, 0, j, given, made);
+    let rows_end = put_rows(out, line_end, n, table, marks);
+    let steady = counting::sums::steady_sum(n, table);
+    put_steady_line(out, rows_end, steady)
+}
+
+// Writes the text of table j from the start, from its completed table.
+fn put_completed(out: &mut [u8], j: usize, given: usize, n: usize, table: &[u8]) -> usize
+    requires { ⌜ (0 < n) × (n ≤ 6) × Ascending (rows n (now table)) × (length (rows n (now table)) ≤ 4096) × (length (completedText n j given (rows n (now table))) ≤ length (now out)) ⌝ }
+    ensures { λ r. ⌜ Wrote (now (out .entry)) 0 (completedText n j given (rows n (now (table .entry)))) r (now (out .exit)) ⌝ }
+{
+    let mut marks = [0u8; 4096];
+    division::marking::mark_ascending(n, table, &mut marks);
+    put_whole(out, j, given, n, table, &marks)
 }

@@ -91,11 +91,14 @@ pub wholeText-length : (j given : ℕ) (H : Table) (marks : List ℕ) (steady : 
 unfolding wholeText
 wholeText-length j given H marks steady = simp length-append
 
--- the text part by part, as it is written
-pub wholeText-parts : (j given : ℕ) (H : Table) (marks : List ℕ) {made steady s : ℕ} → length H ≡ made → s ≡ steady
-    → tableLine j given made ++ rowLines H marks (length H) ++ steadyLine s ≡ wholeText j given H marks steady
-unfolding wholeText
-wholeText-parts j given H marks {steady = t} e f = rw (← e, f) (append-assoc (tableLine j given (length H)) (rowLines H marks (length H)) (steadyLine t))
+-- The text part by part, as it is written, with the numbers as they are computed; and the lengths of the parts.
+module _ (j : ℕ) (H : Table) (marks : List ℕ) {given count made steady s : ℕ} (e : given ≡ count) (f : length H ≡ made) (g : s ≡ steady) where
+  pub wholeText-parts : tableLine j count made ++ rowLines H marks (length H) ++ steadyLine s ≡ wholeText j given H marks steady
+  unfolding wholeText
+  wholeText-parts = rw (← e, ← f, g) (append-assoc (tableLine j given (length H)) (rowLines H marks (length H)) (steadyLine steady))
+
+  pub wholeText-sum : length (wholeText j given H marks steady) ≡ length (tableLine j count made) + (length (rowLines H marks (length H)) + length (steadyLine s))
+  wholeText-sum = rw (← e, ← f, g) (wholeText-length j given H marks steady)
 
 wholeText-bound : (j given : ℕ) (H : Table) (marks : List ℕ) (steady : ℕ) → j < 100 → given ≤ 4096 → length H ≤ 4096 → steady ≤ 300
     → ((k : ℕ) → k < length H → length (rowLine (rowAt H k) (getD marks k 0)) ≤ 23)

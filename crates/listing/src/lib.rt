@@ -83,8 +83,10 @@ fn put_row_line(out: &mut [u8], at: usize, u: Row, marks: u8) -> usize
 
 // Writes the lines of the rows of a table, whose marks stand in their order at the front of `marks`.
 fn put_rows(out: &mut [u8], at: usize, n: usize, table: &[u8], marks: &[u8]) -> usize
-    requires { ⌜ (0 < n) × (n ≤ 6) × (length (rows n (now table)) ≤ length (now marks)) × (at + length (rowLines (rows n (now table)) (now marks) (length (rows n (now table)))) ≤ length (now out)) ⌝ }
-    ensures { λ r. ⌜ Wrote (now (out .entry)) at (rowLines (rows n (now (table .entry))) (now (marks .entry)) (length (rows n (now (table .entry))))) r (now (out .exit)) ⌝ }
+    requires { ⌜ (0 < n) × (n ≤ 6) × (length (rows n (now table)) ≤ length (now marks))
+        × (at + length (rowLines (rows n (now table)) (now marks) (length (rows n (now table)))) ≤ length (now out)) ⌝ }
+    ensures { λ r. ⌜ Wrote (now (out .entry)) at (rowLines (rows n (now (table .entry))) (now (marks .entry)) (length (rows n (now (table .entry)))))
+        r (now (out .exit)) ⌝ }
 {
     let count = table.len() / n;
     let mut next = at;
@@ -142,24 +144,29 @@ fn put_refusal_line(out: &mut [u8], at: usize, number: u8) -> usize
     put_byte(out, number_end, b'\n')
 }
 
-// Writes the text of table j from the start, from its completed table and the marks of that table's rows.
-fn put_whole(out: &mut [u8], j: usize, given: usize, n: usize, table: &[u8], marks: &[u8]) -> usize
-    requires { ⌜ (0 < n) × (n ≤ 6) × (length (rows n (now table)) ≤ length (now marks)) × (length (wholeText j given (rows n (now table)) (now marks) (steadyOf (rows n (now table)))) ≤ length (now out)) ⌝ }
-    ensures { λ r. ⌜ Wrote (now (out .entry)) 0 (wholeText j given (rows n (now (table .entry))) (now (marks .entry)) (steadyOf (rows n (now (table .entry))))) r (now (out .exit)) ⌝ }
+// Writes the text of table j from the start, from its given rows, its completed table and the marks of that table's rows.
+fn put_whole(out: &mut [u8], j: usize, n: usize, given: &[u8], table: &[u8], marks: &[u8]) -> usize
+    requires { ⌜ (0 < n) × (n ≤ 6) × (length (rows n (now table)) ≤ length (now marks))
+        × (length (wholeText j (length (rows n (now given))) (rows n (now table)) (now marks) (steadyOf (rows n (now table)))) ≤ length (now out)) ⌝ }
+    ensures { λ r. ⌜ Wrote (now (out .entry)) 0
+        (wholeText j (length (rows n (now (given .entry)))) (rows n (now (table .entry))) (now (marks .entry)) (steadyOf (rows n (now (table .entry)))))
+        r (now (out .exit)) ⌝ }
 {
+    let count = given.len() / n;
     let made = table.len() / n;
-    let line_end = put_table_line(out, 0, j, given, made);
+    let line_end = put_table_line(out, 0, j, count, made);
     let rows_end = put_rows(out, line_end, n, table, marks);
     let steady = counting::sums::steady_sum(n, table);
     put_steady_line(out, rows_end, steady)
 }
 
-// Writes the text of table j from the start, from its completed table.
-fn put_completed(out: &mut [u8], j: usize, given: usize, n: usize, table: &[u8]) -> usize
-    requires { ⌜ (0 < n) × (n ≤ 6) × Ascending (rows n (now table)) × (length (rows n (now table)) ≤ 4096) × (length (completedText n j given (rows n (now table))) ≤ length (now out)) ⌝ }
-    ensures { λ r. ⌜ Wrote (now (out .entry)) 0 (completedText n j given (rows n (now (table .entry)))) r (now (out .exit)) ⌝ }
+// Writes the text of table j from the start, from its given rows and its completed table.
+fn put_completed(out: &mut [u8], j: usize, n: usize, given: &[u8], table: &[u8]) -> usize
+    requires { ⌜ (0 < n) × (n ≤ 6) × Ascending (rows n (now table)) × (length (rows n (now table)) ≤ 4096)
+        × (length (completedText n j (length (rows n (now given))) (rows n (now table))) ≤ length (now out)) ⌝ }
+    ensures { λ r. ⌜ Wrote (now (out .entry)) 0 (completedText n j (length (rows n (now (given .entry)))) (rows n (now (table .entry)))) r (now (out .exit)) ⌝ }
 {
     let mut marks = [0u8; 4096];
     division::marking::mark_ascending(n, table, &mut marks);
-    put_whole(out, j, given, n, table, &marks)
+    put_whole(out, j, n, given, table, &marks)
 }

@@ -22,11 +22,11 @@ slice-aggregate-put-whole c = search needs
 
 put-whole-requires : tie.Need-put-whole-requires
 put-whole-requires c κs =
-    let s = c .before .before .before .before .before .before .before in
+    let s = c .before .before .before .before .before .before .before .before in
     let a = s .args in
     let H = rows (a .n) (a .table .now) in
     let e = c .before .before .before .mark-ascending .ensures in
-    let text = ap (λ (l : List ℕ). length l) (marked-text (a .n) (a .j) (a .given) H _ e) in
+    let text = ap (λ (l : List ℕ). length l) (marked-text (a .n) (a .j) (length (rows (a .n) (a .given .now))) H _ e) in
     (s .pre .0, s .pre .1, marked-length (a .n) H _ e, omega (arith, text, s .pre .4))
 
 same-length : tie.Need-same-length
@@ -34,8 +34,8 @@ same-length c = search needs
 
 returns : tie.Need-returns
 returns c =
-    let a = c .before .before .before .before .before .before .before .before .before .before .args in
-    wrote-as (c .before .before .put-whole .ensures) (marked-text (a .n) (a .j) (a .given) (rows (a .n) (a .table .now)) _ (c .before .before .before .before .before .before .mark-ascending .ensures))
+    let a = c .before .before .before .before .before .before .before .before .before .before .before .args in
+    wrote-as (c .before .before .put-whole .ensures) (marked-text (a .n) (a .j) (length (rows (a .n) (a .given .now))) (rows (a .n) (a .table .now)) _ (c .before .before .before .before .before .before .mark-ascending .ensures))
 
 pub put-completed-spec : {M : Type 1} → statement M
 put-completed-spec =

@@ -14,29 +14,39 @@ put-exponents-requires c κs =
 
 put-byte-requires : tie.Need-put-byte-requires
 put-byte-requires c κs =
-    let a = c .before .before .before .before .before .before .args in
-    omega (arith, rowLine-length (take (a .u .n) (a .u .exponents)) (a .marks), c .before .before .before .put-exponents .ensures .ends)
+    let first = c .before .before .before in
+    let a = first .before .before .before .args in
+    omega (arith, rowLine-length (take (a .u .n) (a .u .exponents)) (a .marks), first .put-exponents .ensures .ends)
 
 put-field-requires : tie.Need-put-field-requires
 put-field-requires c κs =
-    let a = c .before .before .before .before .before .before .before .before .before .before .args in
-    omega (arith, rowLine-length (take (a .u .n) (a .u .exponents)) (a .marks), c .before .before .before .before .before .before .before .put-exponents .ensures .ends, c .before .before .before .put-byte .ensures .ends)
+    let second = c .before .before .before in
+    let first = second .before .before .before .before in
+    let a = first .before .before .before .args in
+    omega (arith, rowLine-length (take (a .u .n) (a .u .exponents)) (a .marks), first .put-exponents .ensures .ends, second .put-byte .ensures .ends)
 
 put-byte-requires-2 : tie.Need-put-byte-requires-2
 put-byte-requires-2 c κs =
-    let a = c .before .before .before .before .before .before .before .before .before .before .before .before .before .before .args in
-    omega (arith, rowLine-length (take (a .u .n) (a .u .exponents)) (a .marks), c .before .before .before .before .before .before .before .before .before .before .before .put-exponents .ensures .ends, c .before .before .before .before .before .before .before .put-byte .ensures .ends, c .before .before .before .put-field .ensures .ends)
+    let third = c .before .before .before in
+    let second = third .before .before .before .before in
+    let first = second .before .before .before .before in
+    let a = first .before .before .before .args in
+    omega (arith, rowLine-length (take (a .u .n) (a .u .exponents)) (a .marks), first .put-exponents .ensures .ends, second .put-byte .ensures .ends, third .put-field .ensures .ends)
 
 same-length : tie.Need-same-length
 same-length c = search needs
 
 returns : tie.Need-returns
 returns c =
-    let a = c .before .before .before .before .before .before .before .before .before .before .before .before .before .before .before .before .before .args in
-    let w1 = wrote-then (c .before .before .before .before .before .before .before .before .before .before .before .before .before .before .put-exponents .ensures) (omega arith) (c .before .before .before .before .before .before .before .before .before .before .put-byte .ensures) in
-    let w2 = wrote-then (w1) (omega arith) (c .before .before .before .before .before .before .put-field .ensures) in
-    let w3 = wrote-then (w2) (omega arith) (c .before .before .put-byte2 .ensures) in
-    wrote-as w3 (rowLine-parts (take (a .u .n) (a .u .exponents)) (a .marks))
+    let fourth = c .before .before in
+    let third = fourth .before .before .before .before in
+    let second = third .before .before .before .before in
+    let first = second .before .before .before .before in
+    let a = first .before .before .before .args in
+    let upto-second = wrote-then (first .put-exponents .ensures) (omega arith) (second .put-byte .ensures) in
+    let upto-third = wrote-then upto-second (omega arith) (third .put-field .ensures) in
+    let upto-fourth = wrote-then upto-third (omega arith) (fourth .put-byte2 .ensures) in
+    wrote-as upto-fourth (rowLine-parts (take (a .u .n) (a .u .exponents)) (a .marks))
 
 pub put-row-line-spec : {M : Type 1} → statement M
 put-row-line-spec = tie.close (tie.spec put-exponents-requires put-byte-requires put-field-requires put-byte-requires-2 same-length returns)

@@ -13,23 +13,29 @@ put-byte-requires c κs =
 
 put-field-requires : tie.Need-put-field-requires
 put-field-requires c κs =
-    let a = c .before .before .before .before .before .before .args in
-    omega (arith, steadyLine-length (a .steady .0), c .before .before .before .put-byte .ensures .ends)
+    let first = c .before .before .before in
+    let a = first .before .before .before .args in
+    omega (arith, steadyLine-length (a .steady .0), first .put-byte .ensures .ends)
 
 put-byte-requires-2 : tie.Need-put-byte-requires-2
 put-byte-requires-2 c κs =
-    let a = c .before .before .before .before .before .before .before .before .before .before .args in
-    omega (arith, steadyLine-length (a .steady .0), c .before .before .before .before .before .before .before .put-byte .ensures .ends, c .before .before .before .put-field .ensures .ends)
+    let second = c .before .before .before in
+    let first = second .before .before .before .before in
+    let a = first .before .before .before .args in
+    omega (arith, steadyLine-length (a .steady .0), first .put-byte .ensures .ends, second .put-field .ensures .ends)
 
 same-length : tie.Need-same-length
 same-length c = search needs
 
 returns : tie.Need-returns
 returns c =
-    let a = c .before .before .before .before .before .before .before .before .before .before .before .before .before .args in
-    let w1 = wrote-then (c .before .before .before .before .before .before .before .before .before .before .put-byte .ensures) (omega arith) (c .before .before .before .before .before .before .put-field .ensures) in
-    let w2 = wrote-then (w1) (omega arith) (c .before .before .put-byte2 .ensures) in
-    wrote-as w2 (steadyLine-parts (a .steady .0))
+    let third = c .before .before in
+    let second = third .before .before .before .before in
+    let first = second .before .before .before .before in
+    let a = first .before .before .before .args in
+    let upto-second = wrote-then (first .put-byte .ensures) (omega arith) (second .put-field .ensures) in
+    let upto-third = wrote-then upto-second (omega arith) (third .put-byte2 .ensures) in
+    wrote-as upto-third (steadyLine-parts (a .steady .0))
 
 pub put-steady-line-spec : {M : Type 1} → statement M
 put-steady-line-spec = tie.close (tie.spec put-byte-requires put-field-requires put-byte-requires-2 same-length returns)

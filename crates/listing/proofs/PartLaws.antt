@@ -4,6 +4,8 @@
 --   refusalLine-bound      the line of a refusal has room
 --   Found b j f            what is known of table j of an accepted bundle, found by `locate`
 --   part-found             it is known of each table that is found
+--   part-written           a text written from the start that is part j keeps the promise
+--   part-unique, part-front   the promise allows one result, and the front of the buffer is the part
 --   bundle-parts           the whole output is its 16 parts, one behind the other
 use mathlib.Core.Path.{_≡_, refl, sym, ap, _∙_, subst}
 use mathlib.Core.Bool.{Bool, true, false}
@@ -14,7 +16,8 @@ use native.Mathlib.Nat.{add-sub-cancel-left, zero-add, suc-add}
 use native.Mathlib.Decide.{decLt, ℕ-discrete}
 use native.Mathlib.Omega.{arith}
 use lib.Dec.{eqb, ltb}
-use lib.ListN.{length, take, drop}
+use lib.ListN.{length, take, drop, length-append}
+use lib.Seq.{take-append-seam}
 use Rattle.terms.specs.Tests.{pick, tests-lt, tests-eq, tests-true, tests-false}
 use Rattle.terms.specs.Rows.{rows}
 use Rattle.terms.specs.Refusals.{refusal, tableChecks}
@@ -27,6 +30,8 @@ use Rattle.bundle.proofs.CheckLaws.{refusal-none}
 use Rattle.bundle.proofs.AcceptedLaws.{accepted-bundle, table-passes-checks}
 use Rattle.bundle.proofs.ReadLaws.{opened-is, open-accepted, body-shown}
 use Rattle.listing.specs.Text.{decimal, refusalLine, tableText, tablesText, bundleText, partText, partsText}
+use Rattle.listing.specs.Written.{written, Wrote}
+use Rattle.listing.specs.Operation.{PartPromise}
 use Rattle.listing.proofs.TextLaws.{refusalLine-length}
 use Rattle.listing.proofs.BoundLaws.{decimal-three, text-bound}
 
@@ -95,6 +100,29 @@ part-found b j {f = f} g y p z =
       text = rw (body, n) (table-part b j (sym g ∙ y) (a .1));
       bound = text-bound (f .n) j (cut b f) (table-accepted (f .n) (cut b f) (accepted (tableChecks (f .n) (cut b f)) checks)) (omega (arith, a .1));
     }
+
+-- ---- what is promised of a part
+
+-- a text written from the start is no longer than the buffer
+pub part-written : (b : List ℕ) (j : ℕ) {before text : List ℕ} {size : ℕ} {after : List ℕ} → Wrote before 0 text size after → text ≡ partText b j
+    → PartPromise b j before size after
+unfolding written
+part-written b j {before} {text} w e =
+    let parts = length-append text (drop (0 + length text) before) in
+    record {
+      counts = w .ends ∙ zero-add (length text) ∙ ap length e;
+      fits = omega (arith, w .ends, ap length (w .bytes), parts);
+      writes = w .bytes ∙ ap (λ (l : List ℕ). written before 0 l) e;
+    }
+
+-- two results that are allowed are equal
+pub part-unique : {b : List ℕ} {j : ℕ} {before : List ℕ} {r s : ℕ} {x y : List ℕ} → PartPromise b j before r x → PartPromise b j before s y → (r ≡ s) × (x ≡ y)
+part-unique p q = (p .counts ∙ sym (q .counts), p .writes ∙ sym (q .writes))
+
+-- the front of the buffer is the part
+pub part-front : {b : List ℕ} {j : ℕ} {before : List ℕ} {r : ℕ} {x : List ℕ} → PartPromise b j before r x → take r x ≡ partText b j
+unfolding written
+part-front {b} {j} {before} p = rw (p .counts, p .writes) (take-append-seam (partText b j) (drop (0 + length (partText b j)) before))
 
 -- ---- the parts and the whole
 

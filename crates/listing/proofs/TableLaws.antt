@@ -103,6 +103,6 @@ made-none {n} {table} {buffer} {answer} {m} {after} r q e s =
     (λ g. omega arith)
 
 -- the text of the table, from the completed rows in the buffer
-pub made-text : {n : ℕ} {table : List ℕ} {k : ℕ} {after : List ℕ} (j : ℕ) {given : ℕ} → length (rows n table) ≡ given → Made n table k after
-    → completedText n j given (rows n (take (k * n) after)) ≡ tableText n j (rows n table)
-made-text {n} {table} j e m = rw (← e, m .same) (sym (tableText-room n j (rows n table) (m .limited)))
+pub made-text : {n : ℕ} {table : List ℕ} {k : ℕ} {after : List ℕ} (j : ℕ) → Made n table k after
+    → completedText n j (length (rows n table)) (rows n (take (k * n) after)) ≡ tableText n j (rows n table)
+made-text {n} {table} j m = rw (m .same) (sym (tableText-room n j (rows n table) (m .limited)))

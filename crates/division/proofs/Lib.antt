@@ -2,6 +2,8 @@
 pub mod JanetLaws
 pub mod Cover
 pub mod MarksLaws
+pub mod OrderingLaws
+pub mod SuccessorLaws
 pub mod MarkingLaws
 pub mod NumberLaws
 pub mod DescentLaws
@@ -9,3 +11,5 @@ pub mod Facade
 pub mod Examples
 pub mod RangeLaws
 pub mod FindLaws
+pub mod CompleteLaws
+pub mod InsideLaws

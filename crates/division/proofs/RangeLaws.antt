@@ -117,9 +117,9 @@ module _ (G : Table) (q : Monomial) (i : ℕ) where
 
   -- a group in two parts: rows that share the exponent a, which does not exceed q's, and rows that exceed it
   module _ (r : ℕ) (g above : List ℕ) (a : ℕ)
-    (share : (x : ℕ) → List·Memᴰ x (r ∷ g) → rowAt G x ! i ≡ a)
-    (exceed : (x : ℕ) → List·Memᴰ x above → a < rowAt G x ! i)
-    (under : a ≤ q ! i) where
+      (share : (x : ℕ) → List·Memᴰ x (r ∷ g) → rowAt G x ! i ≡ a)
+      (exceed : (x : ℕ) → List·Memᴰ x above → a < rowAt G x ! i)
+      (under : a ≤ q ! i) where
     stepped-parts : stepped G q i ((r ∷ g) ++ above) ≡ a ∷ stepped G q i above
     unfolding stepped exponents
     stepped-parts = rw (distinct-parts (λ s. rowAt G s ! i) a above exceed r g share, le-leb a (q ! i) under)
@@ -140,8 +140,13 @@ module _ (G : Table) (q : Monomial) (i : ℕ) where
             let n : length (stepped G q i ((r ∷ g) ++ above)) ≡ suc (length (stepped G q i above)) = ap length stepped-parts in
             let d = descend G q k (suc i) (keep (λ s. eqb (rowAt G s ! i) c) above) in
             let z : suc (length (stepped G q i above)) + d .steps ≡ 1 + (length (stepped G q i above) + d .steps) = omega arith in
-            rw (descend-on k ((r ∷ g) ++ above) c e (goesOn-above c (omega arith) ∙ t), descend-on k above c f t,
-              keep-above (λ s. rowAt G s ! i) a above exceed c less (r ∷ g) share, n, z)
+            rw (
+              descend-on k ((r ∷ g) ++ above) c e (goesOn-above c (omega arith) ∙ t),
+              descend-on k above c f t,
+              keep-above (λ s. rowAt G s ! i) a above exceed c less (r ∷ g) share,
+              n,
+              z,
+            )
         by-goesOn c less e f false t =
             let n : length (stepped G q i ((r ∷ g) ++ above)) ≡ 1 + length (stepped G q i above) = ap length stepped-parts ∙ omega arith in
             rw (descend-ends k ((r ∷ g) ++ above) c e (goesOn-above c (omega arith) ∙ t), descend-ends k above c f t, n)

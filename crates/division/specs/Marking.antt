@@ -1,29 +1,70 @@
--- The operation marks (rule 2), and what its parts promise.
+-- The operation marks (rule 2).
 --
---   NotAfter u v     u is v or precedes it
---   NextMarks n u w m r   r are the marks of row u, where w is the next in the order of rows and has the marks m
+--   BufferShort n table size   8: the buffer, of that size, is shorter than the rows
+--   marksChecks n table size   the checks in order: 1 to 4 of the table, 8
+--   Markable n G size     what is known once they pass
 --   marked n G buffer     the buffer with the marks of G's rows at its front; the bytes behind stay
+--   marksNumber      the paper's number of an answer, 0 for none
+--   marksAnswer n table size   the answer: done, or the refusal
+--   marksBuffer n table buffer the buffer after it: marked, or on refusal as it was
+--   MarksPromise n table buffer answer after   the promise
 use mathlib.Core.Path.{_≡_}
-use mathlib.Core.List.{List, _++_}
-use mathlib.Core.Logic.{_⊎_}
-use Prim.Native.Nat.{ℕ, suc, _+_, _%_, _^_, _<_}
+use mathlib.Core.List.{List, [], _∷_, _++_}
+use Prim.Native.Nat.{ℕ, zero, suc, _≤_, _<_}
+use lib.Dec.{ltb, eqb, lit<}
 use lib.ListN.{length, drop}
-use Rattle.terms.specs.Monomials.{Monomial, Table, _!_, SameBefore}
-use Rattle.terms.specs.Order.{Precedes}
+use Rattle.terms.specs.Tests.{Tests, pick, tests-lt}
+use Rattle.terms.specs.Monomials.{Table}
+use Rattle.terms.specs.Rows.{rows}
+use Rattle.terms.specs.Refusals.{Check, refusal, check, tableChecks}
 use Rattle.division.specs.Janet.{tableMarks}
+use Rattle.division.specs.declared.marking.MarksAnswer.{MarksAnswer}
+use Rattle.division.specs.declared.marking.MarksAnswer.the-variants.{Done, Refused}
 
-abbrev pub NotAfter : Monomial → Monomial → Type 0
-NotAfter u v = (u ≡ v) ⊎ Precedes u v
+-- ---- the checks
 
--- u and w differ first at variable suc j: all marks behind it, none at it, and those of m before it
-pub record Differing (n : ℕ) (u w : Monomial) (m r j : ℕ) : Type 0 where
-  pub variable : j < n
-  pub same : SameBefore (suc j) u w
-  pub less : u ! suc j < w ! suc j
-  pub marks : r + 2 ^ suc j ≡ m % 2 ^ j + 2 ^ n
+abbrev pub BufferShort : ℕ → List ℕ → ℕ → Type 0
+BufferShort n table size = size < length (rows n table)
 
-abbrev pub NextMarks : ℕ → Monomial → Monomial → ℕ → ℕ → Type 0
-NextMarks n u w m r = ((u ≡ w) × (r ≡ m)) ⊎ ((j : ℕ) × Differing n u w m r j)
+pub tests-bufferShort : (n : ℕ) (table : List ℕ) (size : ℕ) → Tests (ltb size (length (rows n table))) (BufferShort n table size)
+tests-bufferShort n table size = tests-lt size (length (rows n table))
+
+abbrev pub bufferCheck : ℕ → List ℕ → ℕ → Check
+bufferCheck n table size = check 8 (lit< tt) (tests-bufferShort n table size)
+
+abbrev pub marksChecks : ℕ → List ℕ → ℕ → List Check
+marksChecks n table size = tableChecks n table ++ (bufferCheck n table size ∷ [])
+
+-- what is known once they pass, of a table G and a buffer of that size
+pub record Markable (n : ℕ) (G : Table) (size : ℕ) : Type 0 where
+  pub some : 0 < n
+  pub few : n ≤ 6
+  pub limited : length G ≤ 4096
+  pub room : length G ≤ size
+
+-- ---- the answer and the buffer
 
 abbrev pub marked : ℕ → Table → List ℕ → List ℕ
 marked n G buffer = tableMarks n G ++ drop (length G) buffer
+
+abbrev pub marksNumber : MarksAnswer → ℕ
+marksNumber Done = 0
+marksNumber (Refused m) = m
+
+-- for the refusal m, 0 for none
+abbrev pub marksCase : ℕ → MarksAnswer
+marksCase zero = Done
+marksCase (suc m) = Refused (suc m)
+
+unfoldable pub marksAnswer : ℕ → List ℕ → ℕ → MarksAnswer
+unfolding refusal
+marksAnswer n table size = marksCase (refusal (marksChecks n table size))
+
+unfoldable pub marksBuffer : ℕ → List ℕ → List ℕ → List ℕ
+unfolding refusal tableMarks
+marksBuffer n table buffer = pick (eqb (refusal (marksChecks n table (length buffer))) 0) (marked n (rows n table) buffer) buffer
+
+pub record MarksPromise (n : ℕ) (table buffer : List ℕ) (answer : MarksAnswer) (after : List ℕ) : Type 0 where
+  pub number : marksNumber answer ≡ refusal (marksChecks n table (length buffer))
+  pub answers : answer ≡ marksAnswer n table (length buffer)
+  pub writes : after ≡ marksBuffer n table buffer

@@ -1,7 +1,10 @@
 // The descent (rule 6) over ascending rows. A group is a range of rows; stepping along one variable calls for the next
 // variable, which calls for stepping again.
-use terms::{ascends, exponent, table_refusal, RowNumber, Variable};
-
+use terms::RowNumber;
+use terms::Variable;
+use terms::ascends;
+use terms::exponent;
+use terms::table_refusal;
 ghost use mathlib.Core.Path.{_≡_};
 ghost use Prim.Native.Nat.{ℕ, suc, _+_, _*_, _-_, _≤_, _<_};
 ghost use lib.ListN.{length};
@@ -44,12 +47,18 @@ fn gallop(table: &[u8], n: usize, i: Variable, least: u8, lo: RowNumber, hi: Row
     while stride < end - low {
         let high = low + stride;
         if least < exponent(table, n, RowNumber(high), i) {
-            return Bracket { low: RowNumber(low), high: RowNumber(high) };
+            return Bracket {
+                low: RowNumber(low),
+                high: RowNumber(high),
+            };
         }
         low = high;
         stride *= 2;
     }
-    Bracket { low: RowNumber(low), high: RowNumber(end) }
+    Bracket {
+        low: RowNumber(low),
+        high: RowNumber(end),
+    }
 }
 
 // Halves the rows between, until the two are neighbours.
@@ -80,7 +89,15 @@ fn larger_from(table: &[u8], n: usize, i: Variable, lo: RowNumber, hi: RowNumber
 }
 
 // Steps along the exponents of the group at variable i.
-fn step(table: &[u8], n: usize, query: &[u8], i: Variable, lo: RowNumber, hi: RowNumber, steps: usize) -> Descended
+fn step(
+    table: &[u8],
+    n: usize,
+    query: &[u8],
+    i: Variable,
+    lo: RowNumber,
+    hi: RowNumber,
+    steps: usize,
+) -> Descended
     requires { ⌜ (i .0 ≤ n) × Reached n (rows n (now table)) (now query) (i .0) (lo .0) (hi .0) steps ⌝ }
     ensures { λ r. ⌜ r ≡ descended (after steps (descendFrom n (rows n (now (table .entry))) (now (query .entry)) (i .0) (lo .0) (hi .0))) ⌝ }
 {
@@ -88,7 +105,11 @@ fn step(table: &[u8], n: usize, query: &[u8], i: Variable, lo: RowNumber, hi: Ro
     let variable = i.0;
     let most = query[variable - 1];
     if most < least {
-        return Descended { found: Found::Nothing, steps, ended: i };
+        return Descended {
+            found: Found::Nothing,
+            steps,
+            ended: i,
+        };
     }
     let next = larger_from(table, n, i, lo, hi);
     if next.0 < hi.0 {
@@ -96,19 +117,35 @@ fn step(table: &[u8], n: usize, query: &[u8], i: Variable, lo: RowNumber, hi: Ro
             return step(table, n, query, i, next, hi, steps + 1);
         }
         if least < most {
-            return Descended { found: Found::Nothing, steps: steps + 1, ended: i };
+            return Descended {
+                found: Found::Nothing,
+                steps: steps + 1,
+                ended: i,
+            };
         }
     }
     descend(table, n, query, Variable(variable + 1), lo, next, steps + 1)
 }
 
 // Takes variable i, or finds the row that is left after the last.
-fn descend(table: &[u8], n: usize, query: &[u8], i: Variable, lo: RowNumber, hi: RowNumber, steps: usize) -> Descended
+fn descend(
+    table: &[u8],
+    n: usize,
+    query: &[u8],
+    i: Variable,
+    lo: RowNumber,
+    hi: RowNumber,
+    steps: usize,
+) -> Descended
     requires { ⌜ (i .0 ≤ suc n) × Reached n (rows n (now table)) (now query) (i .0) (lo .0) (hi .0) steps ⌝ }
     ensures { λ r. ⌜ r ≡ descended (after steps (descendFrom n (rows n (now (table .entry))) (now (query .entry)) (i .0) (lo .0) (hi .0))) ⌝ }
 {
     if n < i.0 {
-        return Descended { found: Found::Row(lo), steps, ended: Variable(0) };
+        return Descended {
+            found: Found::Row(lo),
+            steps,
+            ended: Variable(0),
+        };
     }
     step(table, n, query, i, lo, hi, steps)
 }
@@ -120,9 +157,21 @@ pub fn descend_table(n: usize, table: &[u8], query: &[u8]) -> Descended
 {
     let count = table.len() / n;
     if count == 0 {
-        return Descended { found: Found::Nothing, steps: 0, ended: Variable(1) };
+        return Descended {
+            found: Found::Nothing,
+            steps: 0,
+            ended: Variable(1),
+        };
     }
-    descend(table, n, query, Variable(1), RowNumber(0), RowNumber(count), 0)
+    descend(
+        table,
+        n,
+        query,
+        Variable(1),
+        RowNumber(0),
+        RowNumber(count),
+        0,
+    )
 }
 
 // The answer of `find`: the Janet divisor's row number with the steps, none with the steps, or a refusal.

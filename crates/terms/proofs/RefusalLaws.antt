@@ -33,10 +33,10 @@ refusal-holds c checks h = ⊎-elim (λ p. p .1) (λ p. absurd (p .0 h)) (first-
 pub refusal-passes : (c : Check) (checks : List Check) → (c .Condition → ⊥) → refusal (c ∷ checks) ≡ refusal checks
 refusal-passes c checks f = ⊎-elim (λ p. absurd (f (p .0))) (λ p. p .1) (first-check c checks)
 
-accepts-nil : Accepts []
+pub accepts-nil : Accepts []
 accepts-nil c m = absurd (List·Memᴰ·not-nil m)
 
-accepts-cons : (c : Check) (checks : List Check) → (c .Condition → ⊥) → Accepts checks → Accepts (c ∷ checks)
+pub accepts-cons : (c : Check) (checks : List Check) → (c .Condition → ⊥) → Accepts checks → Accepts (c ∷ checks)
 accepts-cons c checks f a d m h = ⊎-elim (λ e. f (subst (λ (x : Check). x .Condition) e h)) (λ i. a d i h) (List·Memᴰ·cases-cons m)
 
 -- ---- exactly when none holds

@@ -39,9 +39,11 @@ descend-requires c κs =
     let s = c .before .before .before in
     let a = s .args in
     let e = length-rows (a .n) (a .table .now) in
-    let p : 0 < length (rows (a .n) (a .table .now)) = omega arith in
-    (omega arith, subst (λ (k : ℕ). Reached (a .n) (rows (a .n) (a .table .now)) (a .query .now) 1 0 k 0) e
-    (reached-start (a .n) (rows (a .n) (a .table .now)) (a .query .now) (s .pre .0) (s .pre .1) p))
+    let p : 0 < length (rows (a .n) (a .table .now)) = omega arith in (
+      omega arith,
+      subst (λ (k : ℕ). Reached (a .n) (rows (a .n) (a .table .now)) (a .query .now) 1 0 k 0) e
+          (reached-start (a .n) (rows (a .n) (a .table .now)) (a .query .now) (s .pre .0) (s .pre .1) p),
+    )
 
 -- src/finding.rt:115:1
 returns-2 : tie.Need-returns-2
@@ -50,7 +52,7 @@ returns-2 c =
     let a = s .args in
     let e = length-rows (a .n) (a .table .now) in
     let f : after 0 (descendFrom (a .n) (rows (a .n) (a .table .now)) (a .query .now) 1 0 (length (a .table .now) / a .n)) ≡ descent (a .n) (rows (a .n) (a .table .now)) (a .query .now) =
-        rw e at (descent-all (a .n) (rows (a .n) (a .table .now)) (a .query .now)) in
+    rw e at (descent-all (a .n) (rows (a .n) (a .table .now)) (a .query .now)) in
     c .descend .ensures ∙ ap descended f
 
 pub descend-table-spec : {M : Type 1} → statement M

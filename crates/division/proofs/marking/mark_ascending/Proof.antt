@@ -1,26 +1,25 @@
 -- From row k on the marks are written, and `marks` are those of row k.
 use borrow.Author.Needs.{needs}
 use native.Mathlib.Omega.{arith}
-use mathlib.Core.Path.{_≡_, refl, sym, ap, _∙_}
-use mathlib.Core.Logic.{inr}
-use Prim.Native.Nat.{ℕ, suc, _+_, _-_, _/_, _≤_, _<_}
-use lib.ListN.{length, drop, set, length-set}
+use mathlib.Core.Path.{_≡_, sym, ap, _∙_}
+use Prim.Native.Nat.{ℕ, suc, _-_, _/_, _<_}
 use denote.Ref.{now}
+use lib.ListN.{length, set, length-set}
 use Rattle.terms.specs.Monomials.{rowAt}
 use Rattle.terms.specs.Rows.{rows}
 use Rattle.terms.proofs.RowsLaws.{length-rows}
 use Rattle.division.specs.Janet.{marksOf, tableMarks}
 use Rattle.division.proofs.MarksLaws.{marks-last, tableMarks-at, length-tableMarks}
-use Rattle.division.proofs.MarkingLaws.{from, from-last, from-step, from-all, length-from, before-marks, before-next, none-marked}
+use Rattle.division.proofs.MarkingLaws.{from, from-last, from-step, from-all, length-from, none-marked}
 use Rattle.division.proofs.marking.mark_ascending.Statement.{statement}
 use Rattle.division.proofs.marking.mark_ascending.Tie as tie
 
 abbrev Inv-loop : tie.InvT-loop
-Inv-loop n table buffer₀ count all k₀ marks₀ buffer k marks =
+Inv-loop n table buffer₀ count k₀ marks₀ buffer k marks =
     (k < count) × (marks ≡ marksOf n (rows n table) (rowAt (rows n table) k)) × (buffer ≡ from buffer₀ (tableMarks n (rows n table)) k count)
 
 abbrev μ-loop : tie.MeasureT-loop
-μ-loop n table buffer₀ count all k₀ marks₀ buffer k marks = k
+μ-loop n table buffer₀ count k₀ marks₀ buffer k marks = k
 
 div-count : tie.Need-div-count Inv-loop μ-loop
 div-count c = search needs
@@ -35,11 +34,11 @@ returns c =
     let e : length G ≡ 0 = omega arith in
     sym (none-marked (a .n) G (a .buffer .now) e)
 
-all-marks-requires : tie.Need-all-marks-requires Inv-loop μ-loop
-all-marks-requires c κs = search needs
-
 sub-k : tie.Need-sub-k Inv-loop μ-loop
 sub-k c = search needs
+
+marks-last-requires : tie.Need-marks-last-requires Inv-loop μ-loop
+marks-last-requires c κs = search needs
 
 slice-write-buffer : tie.Need-slice-write-buffer Inv-loop μ-loop
 slice-write-buffer c =
@@ -58,24 +57,23 @@ loop-holds c =
     let z = length-rows (a .n) (a .table .now) in
     let t = length-tableMarks (a .n) G in
     let k = length (a .table .now) / a .n - 1 in
-    let m : c .all-marks .result ≡ marksOf (a .n) G (rowAt G k) = omega (arith, marks-last (a .n) G (s .pre .2) k (omega arith)) in
-    (omega arith, m, from-last (a .buffer .now) (tableMarks (a .n) G) k (length (a .table .now) / a .n) (c .all-marks .result) (omega arith) (omega arith) (omega arith) (m ∙ sym (tableMarks-at (a .n) G k (omega arith))))
+    let m : c .marks-last .result ≡ marksOf (a .n) G (rowAt G k) = omega (arith, c .marks-last .ensures, marks-last (a .n) G (s .pre .1) k (omega arith)) in
+    (omega arith, m, from-last (a .buffer .now) (tableMarks (a .n) G) k (length (a .table .now) / a .n) (c .marks-last .result) (omega arith) (omega arith) (omega arith) (m ∙ sym (tableMarks-at (a .n) G k (omega arith))))
 
-sub-t12 : tie.Need-sub-t12 Inv-loop μ-loop
-sub-t12 c = search needs
+sub-k-2 : tie.Need-sub-k-2 Inv-loop μ-loop
+sub-k-2 c = search needs
 
-marks-by-next-requires : tie.Need-marks-by-next-requires Inv-loop μ-loop
-marks-by-next-requires c κs =
+marks-before-requires : tie.Need-marks-before-requires Inv-loop μ-loop
+marks-before-requires c κs =
     let s = c .before .before .before .before .before .before in
     let a = s .args in
     let G = rows (a .n) (a .table .now) in
     let z = length-rows (a .n) (a .table .now) in
     let t = length-tableMarks (a .n) G in
     let l = c .before .loop in
-    (s .pre .1, c .before .before .all-marks .ensures, omega arith, omega arith, before-next (a .n) G (s .pre .2) (l .k) (omega arith) (omega arith))
-
-sub-k-2 : tie.Need-sub-k-2 Inv-loop μ-loop
-sub-k-2 c = search needs
+    let k : l .k ≡ suc (l .k - 1) = omega arith in
+    let p = s .pre .0 in
+    (record { some = p .some; few = p .few; limited = p .limited; ascends = s .pre .1 }, omega arith, l .inv .1 ∙ ap (λ (x : ℕ). marksOf (a .n) G (rowAt G x)) k)
 
 slice-write-buffer-2 : tie.Need-slice-write-buffer-2 Inv-loop μ-loop
 slice-write-buffer-2 c =
@@ -85,8 +83,8 @@ slice-write-buffer-2 c =
     let z = length-rows (a .n) (a .table .now) in
     let t = length-tableMarks (a .n) G in
     let l = c .before .before .loop in
-    let b = set (a .buffer .now) (length (a .table .now) / a .n - 1) (c .before .before .before .all-marks .result) in
-    let h = length-set (a .buffer .now) (length (a .table .now) / a .n - 1) (c .before .before .before .all-marks .result) in
+    let b = set (a .buffer .now) (length (a .table .now) / a .n - 1) (c .before .before .before .marks-last .result) in
+    let h = length-set (a .buffer .now) (length (a .table .now) / a .n - 1) (c .before .before .before .marks-last .result) in
     omega (arith, ap length (l .inv .2) ∙ length-from b (tableMarks (a .n) G) (l .k) (length (a .table .now) / a .n) (omega arith) (omega arith) (omega arith))
 
 loop-less : tie.Need-loop-less Inv-loop μ-loop
@@ -100,10 +98,10 @@ loop-again c =
     let z = length-rows (a .n) (a .table .now) in
     let t = length-tableMarks (a .n) G in
     let l = c .before .before .loop in
-    let b = set (a .buffer .now) (length (a .table .now) / a .n - 1) (c .before .before .before .all-marks .result) in
-    let h = length-set (a .buffer .now) (length (a .table .now) / a .n - 1) (c .before .before .before .all-marks .result) in
-    let m = before-marks (a .n) G (s .pre .2) (l .k) (c .marks-by-next .result) (l .marks) (omega arith) (omega arith) (l .inv .1) (c .marks-by-next .ensures) in
-    (omega arith, m, rw (l .inv .2) (from-step b (tableMarks (a .n) G) (l .k) (length (a .table .now) / a .n) (c .marks-by-next .result) (omega arith) (omega arith) (omega arith) (omega arith) (m ∙ sym (tableMarks-at (a .n) G (l .k - 1) (omega arith)))))
+    let b = set (a .buffer .now) (length (a .table .now) / a .n - 1) (c .before .before .before .marks-last .result) in
+    let h = length-set (a .buffer .now) (length (a .table .now) / a .n - 1) (c .before .before .before .marks-last .result) in
+    let m = c .marks-before .ensures in
+    (omega arith, m, rw (l .inv .2) (from-step b (tableMarks (a .n) G) (l .k) (length (a .table .now) / a .n) (c .marks-before .result) (omega arith) (omega arith) (omega arith) (omega arith) (m ∙ sym (tableMarks-at (a .n) G (l .k - 1) (omega arith)))))
 
 same-length : tie.Need-same-length Inv-loop μ-loop
 same-length c =
@@ -113,8 +111,8 @@ same-length c =
     let z = length-rows (a .n) (a .table .now) in
     let t = length-tableMarks (a .n) G in
     let l = c .before .loop in
-    let b = set (a .buffer .now) (length (a .table .now) / a .n - 1) (c .before .before .all-marks .result) in
-    let h = length-set (a .buffer .now) (length (a .table .now) / a .n - 1) (c .before .before .all-marks .result) in
+    let b = set (a .buffer .now) (length (a .table .now) / a .n - 1) (c .before .before .marks-last .result) in
+    let h = length-set (a .buffer .now) (length (a .table .now) / a .n - 1) (c .before .before .marks-last .result) in
     ap length (l .inv .2) ∙ length-from b (tableMarks (a .n) G) (l .k) (length (a .table .now) / a .n) (omega arith) (omega arith) (omega arith) ∙ h
 
 returns-2 : tie.Need-returns-2 Inv-loop μ-loop
@@ -126,7 +124,7 @@ returns-2 c =
     let t = length-tableMarks (a .n) G in
     let l = c .before .loop in
     let k = length (a .table .now) / a .n - 1 in
-    l .inv .2 ∙ from-all (a .buffer .now) (tableMarks (a .n) G) (l .k) k (length (a .table .now) / a .n) (length G) (c .before .before .all-marks .result) (omega arith) (omega arith) z
+    l .inv .2 ∙ from-all (a .buffer .now) (tableMarks (a .n) G) (l .k) k (length (a .table .now) / a .n) (length G) (c .before .before .marks-last .result) (omega arith) (omega arith) z
 
 pub mark-ascending-spec : {M : Type 1} → statement M
 mark-ascending-spec =
@@ -136,13 +134,12 @@ mark-ascending-spec =
     μ-loop
     div-count
     returns
-    all-marks-requires
     sub-k
+    marks-last-requires
     slice-write-buffer
     loop-holds
-    sub-t12
-    marks-by-next-requires
     sub-k-2
+    marks-before-requires
     slice-write-buffer-2
     loop-less
     loop-again

@@ -1,0 +1,171 @@
+-- Laws of the check whether an ascending table is complete, for the code that asks it row by row.
+--
+--   product-times, product-length   a row's bytes with one of them raised are the row times that variable
+--   read-exponent, read-row         a row read from the table
+--   covered-row, covered-nothing    a monomial has a Janet divisor exactly where the descent finds a row
+--   marked-variable, unmarked-variable   the test of a variable, by its bit of the marks
+--   each-goes-on, each-fails        a test of each variable, one after the other
+--   last-complete, next-complete, complete-fails, complete-whole, complete-none   rule 4's test, row after row from the end
+--   small-rows       the exponents of a table without entries above 50
+use mathlib.Core.Path.{_≡_, refl, sym, ap, _∙_, subst}
+use mathlib.Core.Bool.{Bool, true, false, not, _&&_}
+use mathlib.Core.List.{List, [], _∷_, List·Memᴰ, List·Memᴰ·cases-cons, List·Memᴰ·not-nil}
+use mathlib.Core.Option.{Option, none, some}
+use mathlib.Core.Logic.{⊎-elim, by-cases}
+use Prim.Native.Nat.{ℕ, zero, suc, _+_, _-_, _*_, _/_, _%_, _^_, _≤_, _<_}
+use native.Mathlib.Nat.{not-suc-le-zero, le-of-suc-le-suc, eq-or-lt-of-le}
+use native.Mathlib.Decide.{decLe, decLt}
+use native.Mathlib.Numerals.{add-one}
+use native.Mathlib.Omega.{arith}
+use lib.ListN.{length, take, drop, set, getD, replicate, length-set}
+use lib.Seq.{take-set-lt, getD-take, length-take-le, drop-cons, drop-length, take-at}
+use Rattle.terms.specs.Tests.{pick, each, all, tests-false, tests-all, tests-as}
+use Rattle.terms.specs.Monomials.{Monomial, Table, _!_, rowAt, times}
+use Rattle.terms.specs.Order.{Ascending}
+use Rattle.terms.specs.Rows.{rows, padded, asRow}
+use Rattle.terms.proofs.MonomialLaws.{beyond}
+use Rattle.terms.proofs.RowsLaws.{rows-size, row-size, row-within, entry-at, member-at, padded-at}
+use Rattle.division.specs.Janet.{multiplicativeTest, marksByte, marksOf, coveredTest, completeTest}
+use Rattle.division.specs.Scan.{foundTest}
+use Rattle.division.specs.Descent.{Descent, descent}
+use Rattle.division.specs.Ranges.{foundRow, descended}
+use Rattle.division.specs.Completeness.{Small, variableTest, rowTest}
+use Rattle.division.proofs.MarksLaws.{marks-bit, last-marks}
+use Rattle.division.proofs.DescentLaws.{covered-found}
+use Rattle.division.specs.declared.finding.Found.the-variants as Found
+use Rattle.division.specs.declared.finding.Descended.{Descended}
+use Rattle.terms.specs.declared.Row.{Row}
+use Rattle.terms.specs.declared.RowNumber.{RowNumber}
+
+-- ---- the product of a row and a variable, as bytes
+
+module _ (bytes : List ℕ) (n : ℕ) (fits : n ≤ length bytes) where
+  pub product-length : (i v : ℕ) → length (take n (set bytes i v)) ≡ n
+  product-length i v = length-take-le n (set bytes i v) (rw length-set fits)
+
+  pub product-times : (i : ℕ) → 0 < i → i ≤ n → take n (set bytes (i - 1) (getD bytes (i - 1) 0 + 1)) ≡ times (take n bytes) i 1
+  product-times zero p l = absurd (not-suc-le-zero p)
+  product-times (suc i) p l =
+      let e : suc i - 1 ≡ i = omega arith in
+      rw (e, take-set-lt n bytes i (getD bytes i 0 + 1) l, getD-take n bytes i 0 l)
+
+-- the six bytes of a row begin with the row
+padded-take : (n : ℕ) (u : Monomial) → length u ≡ n → take n (padded u) ≡ u
+unfolding padded
+padded-take n u e = take-at u (replicate (6 - length u) 0) n e
+
+-- a row read from the table has its exponents, and begins with it
+module _ (n : ℕ) (table : List ℕ) (k : ℕ) (l : k < length (rows n table)) (r : Row) (e : r ≡ asRow n (rowAt (rows n table) k)) where
+  pub read-exponent : (i : ℕ) → r .exponents ! i ≡ rowAt (rows n table) k ! i
+  unfolding asRow
+  read-exponent i = ap (λ (x : Row). x .exponents ! i) e ∙ padded-at (rowAt (rows n table) k) i
+
+  pub read-row : take n (r .exponents) ≡ rowAt (rows n table) k
+  unfolding asRow
+  read-row = ap (λ (x : Row). take n (x .exponents)) e ∙ padded-take n (rowAt (rows n table) k) (row-size n table k l)
+
+-- ---- a Janet divisor, by the descent
+
+row-found : (o : Option ℕ) (r : RowNumber) → foundRow o ≡ Found.Row r → true ≡ foundTest o
+row-found none r f = absurd (let z : _≡_ {A = ℕ} 0 1 = cc in omega arith)
+row-found (some x) r f = refl
+
+nothing-found : (o : Option ℕ) → foundRow o ≡ Found.Nothing → false ≡ foundTest o
+nothing-found none f = refl
+nothing-found (some x) f = absurd (let z : _≡_ {A = ℕ} 0 1 = cc in omega arith)
+
+module _ (n : ℕ) (table : List ℕ) (q : Monomial) (e : length q ≡ n) (d : Descended) (is : d ≡ descended (descent n (rows n table) q)) where
+  pub covered-row : (r : RowNumber) → d .found ≡ Found.Row r → true ≡ coveredTest (rows n table) q
+  covered-row r f = row-found (descent n (rows n table) q .found) r (cc) ∙ sym (covered-found (rows-size n table) q e)
+
+  pub covered-nothing : d .found ≡ Found.Nothing → false ≡ coveredTest (rows n table) q
+  covered-nothing f = nothing-found (descent n (rows n table) q .found) (cc) ∙ sym (covered-found (rows-size n table) q e)
+
+-- ---- one variable of one row
+
+module _ (n : ℕ) (G : Table) (u : Monomial) (i : ℕ) (l : i < n) where
+  bit-is : marksOf n G u / 2 ^ i % 2 ≡ pick (multiplicativeTest G u (suc i)) 1 0
+  unfolding marksOf
+  bit-is = marks-bit (multiplicativeTest G u) n i l
+
+  pub marked-variable : (marksOf n G u / 2 ^ i % 2 ≡ 0 → ⊥) → variableTest G u (suc i) ≡ true
+  unfolding variableTest
+  marked-variable f = go (multiplicativeTest G u (suc i)) refl
+    where
+      go : (b : Bool) → multiplicativeTest G u (suc i) ≡ b → variableTest G u (suc i) ≡ true
+      go true e = rw e
+      go false e = absurd (f (bit-is ∙ ap (λ (c : Bool). pick c 1 0) e))
+
+  pub unmarked-variable : marksOf n G u / 2 ^ i % 2 ≡ 0 → variableTest G u (suc i) ≡ coveredTest G (times u (suc i) 1)
+  unfolding variableTest
+  unmarked-variable f = go (multiplicativeTest G u (suc i)) refl
+    where
+      go : (b : Bool) → multiplicativeTest G u (suc i) ≡ b → variableTest G u (suc i) ≡ coveredTest G (times u (suc i) 1)
+      go true e = absurd (omega (arith, f, bit-is ∙ ap (λ (c : Bool). pick {A = ℕ} c 1 0) e))
+      go false e = rw e
+
+-- ---- one variable after the other
+
+and-false : (b c : Bool) → c ≡ false → (b && c) ≡ false
+and-false true c e = e
+and-false false c e = refl
+
+pub each-goes-on : (i : ℕ) (f : ℕ → Bool) → each i f ≡ true → f (suc i) ≡ true → each (i + 1) f ≡ true
+each-goes-on i f e h = rw (add-one i, h) e
+
+pub each-fails : (n i : ℕ) (f : ℕ → Bool) → i < n → f (suc i) ≡ false → each n f ≡ false
+each-fails zero i f l h = absurd (not-suc-le-zero l)
+each-fails (suc n) i f l h = ⊎-elim
+    (λ e. let g : f (suc n) ≡ false = subst (λ (k : ℕ). f (suc k) ≡ false) e h in rw g)
+    (λ k. and-false (f (suc n)) (each n f) (each-fails n i f k h))
+    (eq-or-lt-of-le (le-of-suc-le-suc l))
+
+each-all : (n : ℕ) (f : ℕ → Bool) → ((i : ℕ) → f i ≡ true) → each n f ≡ true
+each-all zero f h = refl
+each-all (suc n) f h = rw (h (suc n)) (each-all n f h)
+
+-- ---- one row after the other, from the end
+
+all-fails : (f : Monomial → Bool) (l : Table) (u : Monomial) → List·Memᴰ u l → f u ≡ false → all f l ≡ false
+all-fails f [] u m h = absurd (List·Memᴰ·not-nil m)
+all-fails f (v ∷ l) u m h = ⊎-elim
+    (λ e. let g : f v ≡ false = ap f (sym e) ∙ h in rw g)
+    (λ k. and-false (f v) (all f l) (all-fails f l u k h))
+    (List·Memᴰ·cases-cons m)
+
+module _ (n : ℕ) (G : Table) where
+  whole-test : completeTest n G ≡ all (rowTest n G) G
+  unfolding completeTest rowTest variableTest
+  whole-test = refl
+
+  pub complete-none : length G ≡ 0 → true ≡ completeTest n G
+  complete-none e = go G e ∙ sym whole-test
+    where
+      go : (H : Table) → length H ≡ 0 → true ≡ all (rowTest n G) H
+      go [] h = refl
+      go (u ∷ H) h = absurd (omega arith)
+
+  pub next-complete : (k : ℕ) → k < length G → rowTest n G (rowAt G k) ≡ true → all (rowTest n G) (drop (suc k) G) ≡ true → all (rowTest n G) (drop k G) ≡ true
+  next-complete k l h e = rw (drop-cons G k [] l, h) e
+
+  -- the last row has every mark
+  pub last-complete : Ascending G → (k : ℕ) → suc k ≡ length G → all (rowTest n G) (drop k G) ≡ true
+  unfolding rowTest variableTest
+  last-complete a k e =
+      let rest : drop (suc k) G ≡ [] = ap (λ (m : ℕ). drop m G) e ∙ drop-length G in
+      let h : rowTest n G (rowAt G k) ≡ true = each-all n (variableTest G (rowAt G k)) (λ i. rw (last-marks G a k e i)) in
+      next-complete k (omega arith) h (rw rest)
+
+  pub complete-whole : all (rowTest n G) (drop 0 G) ≡ true → true ≡ completeTest n G
+  complete-whole e = sym (whole-test ∙ e)
+
+  pub complete-fails : (k : ℕ) → k < length G → rowTest n G (rowAt G k) ≡ false → false ≡ completeTest n G
+  complete-fails k l h = sym (whole-test ∙ all-fails (rowTest n G) G (rowAt G k) (member-at G [] k l) h)
+
+-- ---- exponents
+
+pub small-rows : (n : ℕ) (table : List ℕ) → ((e : ℕ) → List·Memᴰ e table → e ≤ 50) → Small (rows n table)
+small-rows n table s r l zero = omega arith
+small-rows n table s r l (suc i) = by-cases (decLt i n)
+    (λ h. rw (entry-at n table r i l h) (s (getD table (r * n + i) 0) (member-at table 0 (r * n + i) (omega (arith, row-within n table r l)))))
+    (λ g. omega (arith, beyond (rowAt (rows n table) r) (suc i) (omega (arith, row-size n table r l))))

@@ -1,16 +1,20 @@
 // The text that the program writes, as bytes in a lent buffer. Each writer puts its text from a place on, leaves every
 // other byte as it was, and answers the place behind the text.
+use completion::CompleteAnswer;
 use terms::Degree;
 use terms::Row;
 use terms::RowNumber;
+ghost use mathlib.Core.Path.{_≡_};
 ghost use mathlib.Core.List.{[], _∷_, _++_};
 ghost use Prim.Native.Nat.{_+_, _≤_, _<_};
 ghost use lib.ListN.{length, take};
 ghost use Rattle.terms.specs.Order.{Ascending};
 ghost use Rattle.terms.specs.Rows.{rows};
+ghost use Rattle.terms.specs.Refusals.{refusal, tableChecks};
 ghost use Rattle.counting.specs.Counts.{steadyOf};
-ghost use Rattle.listing.specs.Text.{decimal, space, tableLine, rowLine, steadyLine, noRoomLine, refusalLine, rowLines, wholeText, completedText};
+ghost use Rattle.listing.specs.Text.{decimal, space, tableLine, rowLine, steadyLine, noRoomLine, refusalLine, rowLines, wholeText, completedText, tableText};
 ghost use Rattle.listing.specs.Written.{Wrote, spaced};
+ghost use Rattle.listing.specs.Operation.{PartPromise};
 
 // The most bytes that the text of a table needs: 23 for the line of each of 4,096 rows, 15 for the first line, 6 for the last.
 pub const TEXT_SIZE: usize = 94229;
@@ -169,4 +173,41 @@ fn put_completed(out: &mut [u8], j: usize, n: usize, given: &[u8], table: &[u8])
     let mut marks = [0u8; 4096];
     division::marking::mark_ascending(n, table, &mut marks);
     put_whole(out, j, n, given, table, &marks)
+}
+
+// Writes the text of table j from the start, from its given rows: completes them, or says that there is no room.
+fn put_table(out: &mut [u8], j: usize, n: usize, table: &[u8]) -> usize
+    requires { ⌜ (refusal (tableChecks n (now table)) ≡ 0) × (length (tableText n j (rows n (now table))) ≤ length (now out)) ⌝ }
+    ensures { λ r. ⌜ Wrote (now (out .entry)) 0 (tableText n j (rows n (now (table .entry)))) r (now (out .exit)) ⌝ }
+{
+    let mut made = [0u8; 24576];
+    match completion::complete(n, table, &mut made) {
+        CompleteAnswer::Rows(count) => {
+            let size = count * n;
+            put_completed(out, j, n, table, &made[..size])
+        }
+        CompleteAnswer::Refused(_) => put_no_room_line(out, 0, j),
+    }
+}
+
+// Writes part j of the program's output for a bundle from the start: the text of table j, and nothing where there is no
+// such table; of a refused bundle the line of its refusal in part 0, and nothing in the others.
+pub fn part_text(bundle: &[u8], j: usize, out: &mut [u8; TEXT_SIZE]) -> usize
+    ensures { λ r. ⌜ PartPromise (now (bundle .entry)) j (now (out .entry)) r (now (out .exit)) ⌝ }
+{
+    let number = bundle::bundle_refusal(bundle);
+    if number != 0 {
+        if j != 0 {
+            return 0;
+        }
+        return put_refusal_line(out, 0, number);
+    }
+    let found = bundle::locate(bundle, j);
+    if found.refusal != 0 {
+        return 0;
+    }
+    let start = found.place;
+    let size = found.rows * found.n;
+    let end = start + size;
+    put_table(out, j, found.n, &bundle[start..end])
 }

@@ -1,0 +1,7 @@
+-- The laws of the text and of writing it.
+pub mod WrittenLaws
+pub mod TextLaws
+pub mod BoundLaws
+pub mod TableLaws
+pub mod PartLaws
+pub mod Examples

@@ -1,0 +1,165 @@
+-- Laws of the output part by part.
+--
+--   part-refused, part-silent, part-none   what is written of a refused bundle, and where there is no table j
+--   refusalLine-bound      the line of a refusal has room
+--   Found b j f            what is known of table j of an accepted bundle, found by `locate`
+--   part-found             it is known of each table that is found
+--   part-written           a text written from the start that is part j keeps the promise
+--   part-unique, part-front   the promise allows one result, and the front of the buffer is the part
+--   bundle-parts           the whole output is its 16 parts, one behind the other
+use mathlib.Core.Path.{_≡_, refl, sym, ap, _∙_, subst}
+use mathlib.Core.Bool.{Bool, true, false}
+use mathlib.Core.List.{List, [], _∷_, _++_, append-nil}
+use mathlib.Core.Logic.{by-cases}
+use Prim.Native.Nat.{ℕ, zero, suc, _+_, _*_, _-_, _≤_, _<_}
+use native.Mathlib.Nat.{add-sub-cancel-left, zero-add, suc-add}
+use native.Mathlib.Decide.{decLt, ℕ-discrete}
+use native.Mathlib.Omega.{arith}
+use lib.Dec.{eqb, ltb}
+use lib.ListN.{length, take, drop, length-append}
+use lib.Seq.{take-append-seam}
+use Rattle.terms.specs.Tests.{pick, tests-lt, tests-eq, tests-true, tests-false}
+use Rattle.terms.specs.Rows.{rows}
+use Rattle.terms.specs.Refusals.{refusal, tableChecks}
+use Rattle.terms.proofs.RefusalLaws.{accepted, table-accepted, refusal-append, refusal-passes}
+use Rattle.bundle.specs.Format.{variablesOf, tableCount, rowCount, placeOf, bodyLength, bodyOf, tableOf}
+use Rattle.bundle.specs.Checks.{bundleChecks, numberChecks, openChecks}
+use Rattle.bundle.specs.Operation.{LocatePromise, FoundWithin}
+use Rattle.bundle.specs.declared.Located.{Located}
+use Rattle.bundle.proofs.CheckLaws.{refusal-none}
+use Rattle.bundle.proofs.AcceptedLaws.{accepted-bundle, table-passes-checks}
+use Rattle.bundle.proofs.ReadLaws.{opened-is, open-accepted, body-shown}
+use Rattle.listing.specs.Text.{decimal, refusalLine, tableText, tablesText, bundleText, partText, partsText}
+use Rattle.listing.specs.Written.{written, Wrote}
+use Rattle.listing.specs.Operation.{PartPromise}
+use Rattle.listing.proofs.TextLaws.{refusalLine-length}
+use Rattle.listing.proofs.BoundLaws.{decimal-three, text-bound}
+
+-- ---- where no table is written
+
+refused-part : (b : List ℕ) (j : ℕ) {m : ℕ} → m ≡ refusal (bundleChecks b) → (m ≡ 0 → ⊥) → pick (eqb j 0) (refusalLine m) [] ≡ partText b j
+unfolding partText
+refused-part b j {m} e f =
+    ap (λ (k : ℕ). pick (eqb j 0) (refusalLine k) []) e
+    ∙ ap (λ (c : Bool). pick c (pick (ltb j (tableCount b)) (tableText (variablesOf b) j (tableOf b j)) []) (pick (eqb j 0) (refusalLine (refusal (bundleChecks b))) []))
+    (tests-false (tests-eq (refusal (bundleChecks b)) 0) (λ z. f (e ∙ z)))
+
+accepted-part : (b : List ℕ) (j : ℕ) → refusal (bundleChecks b) ≡ 0 → pick (ltb j (tableCount b)) (tableText (variablesOf b) j (tableOf b j)) [] ≡ partText b j
+unfolding partText
+accepted-part b j e =
+    ap (λ (c : Bool). pick c (pick (ltb j (tableCount b)) (tableText (variablesOf b) j (tableOf b j)) []) (pick (eqb j 0) (refusalLine (refusal (bundleChecks b))) []))
+    (tests-true (tests-eq (refusal (bundleChecks b)) 0) e)
+
+pub part-refused : (b : List ℕ) (j : ℕ) {m : ℕ} → m ≡ refusal (bundleChecks b) → (m ≡ 0 → ⊥) → j ≡ 0 → refusalLine m ≡ partText b j
+part-refused b j {m} e f z = ap (λ (c : Bool). pick c (refusalLine m) []) (tests-true (tests-eq j 0) z) ∙ refused-part b j e f
+
+pub part-silent : (b : List ℕ) (j : ℕ) {m : ℕ} → m ≡ refusal (bundleChecks b) → (m ≡ 0 → ⊥) → (j ≡ 0 → ⊥) → [] ≡ partText b j
+part-silent b j {m} e f z = ap (λ (c : Bool). pick c (refusalLine m) []) (tests-false (tests-eq j 0) z) ∙ refused-part b j e f
+
+past-part : (b : List ℕ) (j : ℕ) → refusal (bundleChecks b) ≡ 0 → (j < tableCount b → ⊥) → [] ≡ partText b j
+past-part b j e g =
+    ap (λ (c : Bool). pick c (tableText (variablesOf b) j (tableOf b j)) []) (tests-false (tests-lt j (tableCount b)) g) ∙ accepted-part b j e
+
+table-part : (b : List ℕ) (j : ℕ) → refusal (bundleChecks b) ≡ 0 → j < tableCount b → tableText (variablesOf b) j (tableOf b j) ≡ partText b j
+table-part b j e h =
+    ap (λ (c : Bool). pick c (tableText (variablesOf b) j (tableOf b j)) []) (tests-true (tests-lt j (tableCount b)) h) ∙ accepted-part b j e
+
+-- table j of an accepted bundle is opened where there is one
+opens-table : (b : List ℕ) (j : ℕ) → refusal (bundleChecks b) ≡ 0 → j < tableCount b → refusal (openChecks b j) ≡ 0
+opens-table b j e h =
+    refusal-append (bundleChecks b) (numberChecks b j) (accepted (bundleChecks b) e) ∙ refusal-passes _ _ (λ (l : tableCount b ≤ j). omega arith) ∙ refusal-none
+
+pub part-none : (b : List ℕ) (j : ℕ) {m : ℕ} {f : Located} → m ≡ refusal (bundleChecks b) → m ≡ 0 → LocatePromise b j f → (f .refusal ≡ 0 → ⊥) → [] ≡ partText b j
+part-none b j e z p g = past-part b j (sym e ∙ z) (λ h. g (p .number ∙ opens-table b j (sym e ∙ z) h))
+
+pub refusalLine-bound : (m : ℕ) → m < 256 → length (refusalLine m) ≤ 94229
+refusalLine-bound m h = omega (arith, refusalLine-length m, decimal-three m (omega arith))
+
+-- ---- a table that is found
+
+-- the bytes that are cut from the bundle for it
+abbrev pub cut : List ℕ → Located → List ℕ
+cut b f = take (f .place + f .rows * f .n - f .place) (drop (f .place) b)
+
+pub record Found (b : List ℕ) (j : ℕ) (f : Located) : Type 0 where
+  pub checks : refusal (tableChecks (f .n) (cut b f)) ≡ 0
+  pub text : tableText (f .n) j (rows (f .n) (cut b f)) ≡ partText b j
+  pub bound : length (tableText (f .n) j (rows (f .n) (cut b f))) ≤ 94229
+
+pub part-found : (b : List ℕ) (j : ℕ) {m : ℕ} {f : Located} → m ≡ refusal (bundleChecks b) → m ≡ 0 → LocatePromise b j f → f .refusal ≡ 0 → Found b j f
+part-found b j {f = f} g y p z =
+    let e : refusal (openChecks b j) ≡ 0 = sym (p .number) ∙ z in
+    let a = open-accepted b j e in
+    let n : f .n ≡ variablesOf b = p .variables ∙ opened-is b j (variablesOf b) 0 e in
+    let body : cut b f ≡ bodyOf b j =
+    ap (λ (k : ℕ). take k (drop (f .place) b)) (add-sub-cancel-left (f .place) (f .rows * f .n)) ∙ body-shown b j f p ∙ opened-is b j (bodyOf b j) [] e in
+    let checks : refusal (tableChecks (f .n) (cut b f)) ≡ 0 = rw (body, n) (table-passes-checks b (a .0) j (a .1)) in
+    let few = a .0 .layout .frame .fewTables in
+    record {
+      checks = checks;
+      text = rw (body, n) (table-part b j (sym g ∙ y) (a .1));
+      bound = text-bound (f .n) j (cut b f) (table-accepted (f .n) (cut b f) (accepted (tableChecks (f .n) (cut b f)) checks)) (omega (arith, a .1));
+    }
+
+-- ---- what is promised of a part
+
+-- a text written from the start is no longer than the buffer
+pub part-written : (b : List ℕ) (j : ℕ) {before text : List ℕ} {size : ℕ} {after : List ℕ} → Wrote before 0 text size after → text ≡ partText b j
+    → PartPromise b j before size after
+unfolding written
+part-written b j {before} {text} w e =
+    let parts = length-append text (drop (0 + length text) before) in
+    record {
+      counts = w .ends ∙ zero-add (length text) ∙ ap length e;
+      fits = omega (arith, w .ends, ap length (w .bytes), parts);
+      writes = w .bytes ∙ ap (λ (l : List ℕ). written before 0 l) e;
+    }
+
+-- two results that are allowed are equal
+pub part-unique : {b : List ℕ} {j : ℕ} {before : List ℕ} {r s : ℕ} {x y : List ℕ} → PartPromise b j before r x → PartPromise b j before s y → (r ≡ s) × (x ≡ y)
+part-unique p q = (p .counts ∙ sym (q .counts), p .writes ∙ sym (q .writes))
+
+-- the front of the buffer is the part
+pub part-front : {b : List ℕ} {j : ℕ} {before : List ℕ} {r : ℕ} {x : List ℕ} → PartPromise b j before r x → take r x ≡ partText b j
+unfolding written
+part-front {b} {j} {before} p = rw (p .counts, p .writes) (take-append-seam (partText b j) (drop (0 + length (partText b j)) before))
+
+-- ---- the parts and the whole
+
+accepted-text : (b : List ℕ) → refusal (bundleChecks b) ≡ 0 → tablesText b 0 (tableCount b) ≡ bundleText b
+unfolding bundleText
+accepted-text b e =
+    ap (λ (c : Bool). pick c (tablesText b 0 (tableCount b)) (refusalLine (refusal (bundleChecks b)))) (tests-true (tests-eq (refusal (bundleChecks b)) 0) e)
+
+refused-text : (b : List ℕ) → (refusal (bundleChecks b) ≡ 0 → ⊥) → refusalLine (refusal (bundleChecks b)) ≡ bundleText b
+unfolding bundleText
+refused-text b f =
+    ap (λ (c : Bool). pick c (tablesText b 0 (tableCount b)) (refusalLine (refusal (bundleChecks b)))) (tests-false (tests-eq (refusal (bundleChecks b)) 0) f)
+
+-- parts of which each is empty
+silent-parts : (b : List ℕ) (m j : ℕ) → ((i : ℕ) → j ≤ i → [] ≡ partText b i) → [] ≡ partsText b j m
+unfolding partsText
+silent-parts b zero j f = refl
+silent-parts b (suc m) j f =
+    silent-parts b m (suc j) (λ i h. f i (omega arith)) ∙ ap (λ (l : List ℕ). l ++ partsText b (suc j) m) (f j (omega arith))
+
+-- the tables from j on, and then any number of empty parts
+table-parts : (b : List ℕ) → refusal (bundleChecks b) ≡ 0 → (m j r : ℕ) → j + m ≡ tableCount b → tablesText b j m ≡ partsText b j (m + r)
+unfolding tablesText partsText
+table-parts b e zero j r h = rw zero-add (silent-parts b r j (λ i l. past-part b i e (λ g. omega arith)))
+table-parts b e (suc m) j r h =
+    rw suc-add
+    (ap (λ (l : List ℕ). tableText (variablesOf b) j (tableOf b j) ++ l) (table-parts b e m (suc j) r (omega arith))
+    ∙ ap (λ (l : List ℕ). l ++ partsText b (suc j) (m + r)) (table-part b j e (omega arith)))
+
+-- A bundle has at most 16 tables, so its tables are among the first 16 parts and the others are empty. Of a refused bundle part 0 is the line.
+pub bundle-parts : (b : List ℕ) → bundleText b ≡ partsText b 0 16
+unfolding partsText
+bundle-parts b = by-cases (ℕ-discrete (refusal (bundleChecks b)) 0)
+    (λ e.
+    let few = accepted-bundle b e .layout .frame .fewTables in
+    let all : tableCount b + (16 - tableCount b) ≡ 16 = omega arith in
+    sym (accepted-text b e) ∙ table-parts b e (tableCount b) 0 (16 - tableCount b) (omega arith) ∙ ap (λ (k : ℕ). partsText b 0 k) all)
+    (λ f.
+    let rest : [] ≡ partsText b 1 15 = silent-parts b 15 1 (λ i h. part-silent b i refl f (λ z. omega arith)) in
+    sym (refused-text b f) ∙ part-refused b 0 refl f refl ∙ sym (append-nil (partText b 0)) ∙ ap (λ (l : List ℕ). partText b 0 ++ l) rest)

@@ -1,0 +1,108 @@
+-- Laws of the text of a table as it is made: from the marks in a buffer, and from what `complete` answers.
+--
+--   marked-length, marked-text   marks at the front of a buffer serve as the marks of the rows
+--   Made n table k after   what stands in a buffer after k completed rows were written into it
+--   made-rows              an accepted completion
+--   made-none              a completion into 4,096 rows that is refused, of a table that passed the checks 1 to 4
+use mathlib.Core.Path.{_≡_, refl, sym, ap, _∙_, subst}
+use mathlib.Core.List.{List, [], _∷_, _++_}
+use mathlib.Core.Logic.{by-cases}
+use Prim.Native.Nat.{ℕ, zero, suc, _+_, _*_, _/_, _≤_, _<_, min}
+use native.Mathlib.Nat.{le-min, le-div-iff-mul-le, min-le-left, mul-le-mul-left}
+use native.Mathlib.Decide.{decLe}
+use native.Mathlib.Omega.{arith}
+use lib.ListN.{length, take, drop, getD, length-append, List·getD-append}
+use lib.Seq.{take-at}
+use Rattle.terms.specs.Monomials.{Table, rowAt}
+use Rattle.terms.specs.Order.{Ascending}
+use Rattle.terms.specs.Rows.{rows, flat}
+use Rattle.terms.specs.Refusals.{refusal, Accepts, tableChecks}
+use Rattle.terms.proofs.RowsLaws.{length-flat, rows-flat, rows-size}
+use Rattle.terms.proofs.RefusalLaws.{TableAccepted, table-accepted, accepted}
+use Rattle.division.specs.Janet.{tableMarks}
+use Rattle.division.specs.Marking.{marked}
+use Rattle.division.proofs.MarksLaws.{length-tableMarks}
+use Rattle.completion.specs.Operation.{roomFor, completedOf, completeChecks, CompletePromise}
+use Rattle.completion.specs.declared.CompleteAnswer.{CompleteAnswer}
+use Rattle.completion.specs.declared.CompleteAnswer.the-variants.{Rows, Refused}
+use Rattle.completion.proofs.CompletedLaws.{completed-table}
+use Rattle.completion.proofs.OperationLaws.{complete-unique, complete-accepts, complete-count, complete-kept, complete-length, room-enough, room-fits, accepted-room, completedOf-size}
+use Rattle.counting.specs.Counts.{steadyOf}
+use Rattle.listing.specs.Text.{rowLine, rowLines, tableLine, steadyLine, wholeText, completedText, tableText}
+use Rattle.listing.proofs.BoundLaws.{tableText-room}
+
+-- ---- marks
+
+marked-lines : (H : Table) (marks rest : List ℕ) (k : ℕ) → k ≤ length marks → rowLines H (marks ++ rest) k ≡ rowLines H marks k
+unfolding rowLines
+marked-lines H marks rest zero h = refl
+marked-lines H marks rest (suc k) h = rw (marked-lines H marks rest k (omega arith), List·getD-append marks rest 0 k h)
+
+pub marked-length : (n : ℕ) (H : Table) (buffer : List ℕ) {marks : List ℕ} → marks ≡ marked n H buffer → length H ≤ length marks
+marked-length n H buffer e = omega (arith, ap length e, length-append (tableMarks n H) (drop (length H) buffer), length-tableMarks n H)
+
+pub marked-text : (n j given : ℕ) (H : Table) (buffer : List ℕ) {marks : List ℕ} → marks ≡ marked n H buffer
+    → wholeText j given H marks (steadyOf H) ≡ completedText n j given H
+unfolding completedText wholeText
+marked-text n j given H buffer {marks} e =
+    let lines : rowLines H marks (length H) ≡ rowLines H (tableMarks n H) (length H) =
+    rw e (marked-lines H (tableMarks n H) (drop (length H) buffer) (length H) (omega (arith, length-tableMarks n H))) in
+    ap (λ (l : List ℕ). tableLine j given (length H) ++ (l ++ steadyLine (steadyOf H))) lines
+
+-- ---- the completed rows
+
+pub record Made (n : ℕ) (table : List ℕ) (k : ℕ) (after : List ℕ) : Type 0 where
+  pub some : 0 < n
+  pub few : n ≤ 6
+  pub fits : k * n ≤ length after
+  pub size : length (take (k * n) after) ≡ k * n
+  pub same : rows n (take (k * n) after) ≡ completedOf n table
+  pub limited : length (completedOf n table) ≤ 4096
+  pub ascends : Ascending (completedOf n table)
+
+room-limit : (n size : ℕ) → roomFor n size ≤ 4096
+unfolding roomFor
+room-limit n size = min-le-left 4096 (size / n)
+
+pub made-rows : {n : ℕ} {table buffer : List ℕ} {answer : CompleteAnswer} {k : ℕ} {after : List ℕ} → refusal (tableChecks n table) ≡ 0
+    → CompletePromise n table buffer answer after → answer ≡ Rows k → Made n table k after
+made-rows {n} {table} {buffer} {answer} {k} {after} r q e =
+    let t : TableAccepted n table = table-accepted n table (accepted (tableChecks n table) r) in
+    let p : CompletePromise n table buffer (Rows k) after = subst (λ (r : CompleteAnswer). CompletePromise n table buffer r after) e q in
+    let H : Table = completedOf n table in
+    let z = completedOf-size n table in
+    let counted : k ≡ length H = complete-count p in
+    let there : after ≡ flat H ++ drop (length H * n) buffer = complete-unique p (complete-accepts n table buffer (sym (p .number))) .1 in
+    let front : take (k * n) after ≡ flat H = rw (counted, there) (take-at (flat H) (drop (length H * n) buffer) (length H * n) (length-flat n H z)) in
+    let room = accepted-room n table (length buffer) (sym (p .number)) in
+    record {
+      some = t .some;
+      few = t .few;
+      fits = omega (arith, room-fits n (length buffer) k (omega arith), complete-length p);
+      size = ap length front ∙ length-flat n H z ∙ ap (λ (m : ℕ). m * n) (sym counted);
+      same = ap (rows n) front ∙ rows-flat n H (t .some) z;
+      limited = omega (arith, room-limit n (length buffer));
+      ascends = completed-table n (rows n table) (rows-size n table) .ascends;
+    }
+
+-- six bytes for each of 4,096 rows are room for 4,096 rows
+room-whole : (n : ℕ) → 0 < n → n ≤ 6 → 4096 ≤ roomFor n 24576
+unfolding roomFor
+room-whole n h l = le-min (omega arith) (le-div-iff-mul-le h .1 (omega arith))
+
+pub made-none : {n : ℕ} {table buffer : List ℕ} {answer : CompleteAnswer} {m : ℕ} {after : List ℕ} → refusal (tableChecks n table) ≡ 0
+    → CompletePromise n table buffer answer after → answer ≡ Refused m → length buffer ≡ 24576 → 4096 < length (completedOf n table)
+made-none {n} {table} {buffer} {answer} {m} {after} r q e s =
+    let a : Accepts (tableChecks n table) = accepted (tableChecks n table) r in
+    let p : CompletePromise n table buffer (Refused m) after = subst (λ (r : CompleteAnswer). CompletePromise n table buffer r after) e q in
+    let t = table-accepted n table a in
+    by-cases (decLe (length (completedOf n table)) 4096)
+    (λ l.
+    let room : length (completedOf n table) ≤ roomFor n (length buffer) = rw s (omega (arith, room-whole n (t .some) (t .few))) in
+    absurd (omega (arith, complete-kept p .0, p .number, room-enough n table (length buffer) a room)))
+    (λ g. omega arith)
+
+-- the text of the table, from the completed rows in the buffer
+pub made-text : {n : ℕ} {table : List ℕ} {k : ℕ} {after : List ℕ} (j : ℕ) → Made n table k after
+    → completedText n j (length (rows n table)) (rows n (take (k * n) after)) ≡ tableText n j (rows n table)
+made-text {n} {table} j m = rw (m .same) (sym (tableText-room n j (rows n table) (m .limited)))

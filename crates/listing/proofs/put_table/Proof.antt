@@ -1,0 +1,86 @@
+-- An accepted completion leaves the completed table at the front of the local array, and its text is written. A refused one has more than
+-- 4,096 rows, and the one line says so.
+use borrow.Author.Needs.{needs}
+use native.Mathlib.Omega.{arith}
+use mathlib.Core.Path.{sym, ap, subst}
+use lib.ListN.{length}
+use Rattle.terms.specs.Monomials.{Table}
+use Rattle.terms.specs.Order.{Ascending}
+use Rattle.terms.specs.Rows.{rows}
+use Rattle.listing.proofs.WrittenLaws.{wrote-as}
+use Rattle.listing.proofs.BoundLaws.{tableText-full}
+use Rattle.listing.proofs.TableLaws.{made-rows, made-none, made-text}
+use Rattle.listing.proofs.put_table.Statement.{statement}
+use Rattle.listing.proofs.put_table.Tie as tie
+
+slice-aggregate-complete : tie.Need-slice-aggregate-complete
+slice-aggregate-complete c = search needs
+
+complete-requires : tie.Need-complete-requires
+complete-requires c κs = search needs
+
+enum-known-count : tie.Need-enum-known-count
+enum-known-count c = search needs
+
+mul-size : tie.Need-mul-size
+mul-size c =
+    let m = made-rows (c .before .before .before .before .before .before .before .before .pre .0) (c .before .before .before .before .complete .ensures) (c .before .count .given .1) in
+    omega (arith, m .fits)
+
+array-share-prefix-made : tie.Need-array-share-prefix-made
+array-share-prefix-made c = made-rows (c .before .before .before .before .before .before .before .before .before .pre .0) (c .before .before .before .before .before .complete .ensures) (c .before .before .count .given .1) .fits
+
+slice-aggregate-put-completed : tie.Need-slice-aggregate-put-completed
+slice-aggregate-put-completed c = sym (made-rows (c .before .before .before .before .before .before .before .before .before .before .pre .0) (c .before .before .before .before .before .before .complete .ensures) (c .before .before .before .count .given .1) .size)
+
+put-completed-requires : tie.Need-put-completed-requires
+put-completed-requires c κs =
+    let s = c .before .before .before .before .before .before .before .before .before .before in
+    let m = made-rows (s .pre .0) (c .before .before .before .before .before .before .complete .ensures) (c .before .before .before .count .given .1) in
+    let text = made-text (s .args .j) m in
+    (m .some, m .few, subst (λ (H : Table). Ascending H) (sym (m .same)) (m .ascends), omega (arith, ap length (m .same), m .limited), omega (arith, ap length text, s .pre .1))
+
+enum-told : tie.Need-enum-told
+enum-told c = search needs
+
+put-no-room-line-requires : tie.Need-put-no-room-line-requires
+put-no-room-line-requires c κs =
+    let s = c .before .before .before .before .before .before .before .before in
+    let l = made-none (s .pre .0) (c .before .before .before .before .complete .ensures) (c .before .enum-told .given .1) (search needs) in
+    omega (arith, ap length (tableText-full (s .args .n) (s .args .j) (rows (s .args .n) (s .args .table .now)) l), s .pre .1)
+
+same-length : tie.Need-same-length
+same-length c = search needs
+
+returns : tie.Need-returns
+returns c =
+    let s = c .before .before .before .before .before .before .before .before .before .before .before .before .before in
+    let m = made-rows (s .pre .0) (c .before .before .before .before .before .before .before .before .before .complete .ensures) (c .before .before .before .before .before .before .count .given .1) in
+    wrote-as (c .before .before .put-completed .ensures) (made-text (s .args .j) m)
+
+same-length-2 : tie.Need-same-length-2
+same-length-2 c = search needs
+
+returns-2 : tie.Need-returns-2
+returns-2 c =
+    let s = c .before .before .before .before .before .before .before .before .before .before .before in
+    let l = made-none (s .pre .0) (c .before .before .before .before .before .before .before .complete .ensures) (c .before .before .before .before .enum-told .given .1) (search needs) in
+    wrote-as (c .before .before .put-no-room-line .ensures) (sym (tableText-full (s .args .n) (s .args .j) (rows (s .args .n) (s .args .table .now)) l))
+
+pub put-table-spec : {M : Type 1} → statement M
+put-table-spec =
+    tie.close
+    (tie.spec
+    slice-aggregate-complete
+    complete-requires
+    enum-known-count
+    mul-size
+    array-share-prefix-made
+    slice-aggregate-put-completed
+    put-completed-requires
+    enum-told
+    put-no-room-line-requires
+    same-length
+    returns
+    same-length-2
+    returns-2)

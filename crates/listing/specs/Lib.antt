@@ -1,0 +1,4 @@
+-- The text of the listing, and what its writers promise.
+pub mod Text
+pub mod Written
+pub mod Operation

@@ -6,7 +6,6 @@
 --   marked-variable, unmarked-variable   the test of a variable, by its bit of the marks
 --   each-goes-on, each-fails        a test of each variable, one after the other
 --   last-complete, next-complete, complete-fails, complete-whole, complete-none   rule 4's test, row after row from the end
---   small-rows       the exponents of a table without entries above 50
 use mathlib.Core.Path.{_≡_, refl, sym, ap, _∙_, subst}
 use mathlib.Core.Bool.{Bool, true, false, not, _&&_}
 use mathlib.Core.List.{List, [], _∷_, List·Memᴰ, List·Memᴰ·cases-cons, List·Memᴰ·not-nil}
@@ -161,11 +160,3 @@ module _ (n : ℕ) (G : Table) where
 
   pub complete-fails : (k : ℕ) → k < length G → rowTest n G (rowAt G k) ≡ false → false ≡ completeTest n G
   complete-fails k l h = sym (whole-test ∙ all-fails (rowTest n G) G (rowAt G k) (member-at G [] k l) h)
-
--- ---- exponents
-
-pub small-rows : (n : ℕ) (table : List ℕ) → ((e : ℕ) → List·Memᴰ e table → e ≤ 50) → Small (rows n table)
-small-rows n table s r l zero = omega arith
-small-rows n table s r l (suc i) = by-cases (decLt i n)
-    (λ h. rw (entry-at n table r i l h) (s (getD table (r * n + i) 0) (member-at table 0 (r * n + i) (omega (arith, row-within n table r l)))))
-    (λ g. omega (arith, beyond (rowAt (rows n table) r) (suc i) (omega (arith, row-size n table r l))))

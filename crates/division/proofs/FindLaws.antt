@@ -23,13 +23,14 @@ use Rattle.terms.specs.Rows.{rows}
 use Rattle.terms.specs.Refusals.{Check, Accepts, refusal, tableChecks}
 use Rattle.terms.proofs.OrderLaws.{tests-ascending}
 use Rattle.terms.proofs.RowsLaws.{rows-size}
-use Rattle.terms.proofs.RefusalLaws.{accepted, refusal-holds, refusal-passes, refusal-append, refusal-first, table-accepted}
+use Rattle.terms.proofs.RefusalLaws.{accepted, refusal-holds, refusal-passes, refusal-append, refusal-first}
 use Rattle.division.specs.Janet.{Multiplicative}
 use Rattle.division.specs.Scan.{Answers}
 use Rattle.division.specs.Descent.{Descent, descent}
 use Rattle.division.specs.Ranges.{Ready, foundRow, descended}
 use Rattle.division.specs.Operations.{NotAscending, lengthCheck, orderCheck, findChecks, findNumber, findRow, findSteps, findGives, findCase, findAnswer, FindPromise}
 use Rattle.division.proofs.DescentLaws.{descent-finds, descent-steps}
+use Rattle.division.proofs.ReadyLaws.{table-ready}
 use Rattle.division.specs.declared.finding.FindAnswer.{FindAnswer}
 use Rattle.division.specs.declared.finding.FindAnswer.the-variants.{Row, Nothing, Refused}
 use Rattle.division.specs.declared.finding.Found.the-variants as Found
@@ -120,14 +121,9 @@ module _ (n : ℕ) (table query : List ℕ) where
   find-length e = by-cases (ℕ-discrete (length query) n) (λ h. h) (λ g. absurd (own-passed e (lengthCheck n query) (List·Memᴰ·head refl) g))
 
   pub find-ready : refusal (findChecks n table query) ≡ 0 → Ready n (rows n table)
-  find-ready e =
-      let t = table-accepted n table (accepted (tableChecks n table) (table-passed e)) in
-      record {
-        some = t .some;
-        few = t .few;
-        limited = t .limited;
-        ascends = by-cases (decide (tests-ascending (rows n table))) (λ h. h) (λ g. absurd (own-passed e (orderCheck n table) (List·Memᴰ·tail (List·Memᴰ·head refl)) g));
-      }
+  find-ready e = table-ready n table (table-passed e) (by-cases (decide (tests-ascending (rows n table)))
+      (λ h. h)
+      (λ g. absurd (own-passed e (orderCheck n table) (List·Memᴰ·tail (List·Memᴰ·head refl)) g)))
 
   -- ---- the answer from what the code's descent gives
 

@@ -6,6 +6,7 @@
 --   descend-gap      it ends with nothing where the last exponent stepped on is below q's and not the largest
 --   descend-down     it takes the next variable where that exponent is q's or the largest
 --   ascends-at       in a range that is equal before i the exponents at i ascend
+--   between-within, larger-found   the search for the first later row with a larger exponent
 --   range-none, range-next, range-gap, range-down   the same four laws of ranges
 --   larger-unique    there is one first later row with a larger exponent
 use mathlib.Core.Path.{_≡_, refl, sym, ap, _∙_, subst}
@@ -29,7 +30,7 @@ use Rattle.terms.proofs.OrderLaws.{ascending-between}
 use Rattle.division.specs.Descent.{Descent, insert, distinct, first, last, numbersFrom, exponents, stepped, goesOn, onward, descend, descent}
 use Rattle.division.proofs.NumberLaws.{distinct-in, map-in, numbers-in}
 use Rattle.division.proofs.DescentLaws.{exponents-in, stepped-in, stepped-make, tests-goesOn, descent-empty}
-use Rattle.division.specs.Ranges.{range, GroupRange, FirstLarger, Between, Reached, Ready, after, descendFrom}
+use Rattle.division.specs.Ranges.{range, GroupRange, FirstLarger, Between, Reached, SteppedTo, Ready, after, descendFrom}
 
 -- ---- the distinct numbers of a list
 
@@ -305,15 +306,25 @@ module _ (G : Table) (ascends : Ascending G) (i lo hi : ℕ) (R : GroupRange G i
 
 -- ---- what the code does, in these words
 
--- two neighbouring rows within a bracket of the range: the second is the first later row with a larger exponent
-pub larger-found : (G : Table) (i lo hi low high r : ℕ) → Ascending G → GroupRange G i lo hi → Between G i (rowAt G lo ! i) lo hi low high → Between G i (rowAt G lo ! i) low high (r - 1) r → FirstLarger G i lo hi r
-larger-found G i lo hi low high r ascends R a b = record {
-  later = omega (arith, a .from, b .from, b .apart);
-  within = omega (arith, a .within, b .within);
-  none = λ s l h. omega (arith, b .not-above, ascends-at G ascends i lo hi R s (r - 1) (omega arith) (omega arith) (omega (arith, b .apart, b .within, a .within)));
-  larger = λ l. by-cases (decLt r high)
-      (b .above)
-      (λ g. let e : high ≡ r = omega (arith, b .within) in subst (λ (k : ℕ). rowAt G lo ! i < rowAt G k ! i) e (a .above (omega arith)));
+-- a bracket within a bracket
+pub between-within : {G : Table} {i a lo hi low high x y : ℕ} → Between G i a lo hi low high → Between G i a low high x y → Between G i a lo hi x y
+between-within {G} {i} {a} {lo} {hi} {low} {high} {x} {y} b c = record {
+  from = omega (arith, b .from, c .from);
+  apart = c .apart;
+  within = omega (arith, b .within, c .within);
+  not-above = c .not-above;
+  above = λ l. by-cases (decLt y high)
+      (c .above)
+      (λ g. let e : high ≡ y = omega (arith, c .within) in subst (λ (k : ℕ). a < rowAt G k ! i) e (b .above (omega arith)));
+}
+
+-- the second of two neighbouring rows of a bracket is the first later row with a larger exponent
+pub larger-found : (G : Table) (i lo hi r : ℕ) → Ascending G → GroupRange G i lo hi → Between G i (rowAt G lo ! i) lo hi (r - 1) r → FirstLarger G i lo hi r
+larger-found G i lo hi r ascends R b = record {
+  later = omega (arith, b .from, b .apart);
+  within = b .within;
+  none = λ s l h. omega (arith, b .not-above, ascends-at G ascends i lo hi R s (r - 1) (omega arith) (omega arith) (omega (arith, b .apart, b .within)));
+  larger = b .above;
 }
 
 -- the byte of variable i stands one place before it
@@ -356,7 +367,7 @@ module _ (n : ℕ) (G : Table) (q : Monomial) (i lo hi steps : ℕ) (R : Reached
         left = omega (arith, R .left, F .later, F .within);
       }
 
-      pub reached-shared : Reached n G q (i + 1) lo mid (steps + 1)
+      reached-shared : Reached n G q (i + 1) lo mid (steps + 1)
       reached-shared = record {
         ascends = R .ascends;
         limited = R .limited;
@@ -367,17 +378,42 @@ module _ (n : ℕ) (G : Table) (q : Monomial) (i lo hi steps : ℕ) (R : Reached
       }
 
       module _ (under : rowAt G lo ! i ≤ q ! i) where
-        pub reached-next : mid < hi → rowAt G mid ! i ≤ q ! i → after (steps + 1) (descendFrom n G q i mid hi) ≡ after steps (descendFrom n G q i lo hi)
+        reached-next : mid < hi → rowAt G mid ! i ≤ q ! i → after (steps + 1) (descendFrom n G q i mid hi) ≡ after steps (descendFrom n G q i lo hi)
         reached-next l h =
             rw (left-here) (after-one steps (descend G q (suc (n - i)) i (range lo hi)) (descend G q (suc (n - i)) i (range mid hi)) (range-next G (R .ascends) i lo hi (R .group) q (n - i) mid F under l h))
 
-        pub reached-gap : mid < hi → q ! i < rowAt G mid ! i → rowAt G lo ! i < q ! i → record { found = none; steps = steps + 1; ended = i } ≡ after steps (descendFrom n G q i lo hi)
+        reached-gap : mid < hi → q ! i < rowAt G mid ! i → rowAt G lo ! i < q ! i → record { found = none; steps = steps + 1; ended = i } ≡ after steps (descendFrom n G q i lo hi)
         reached-gap l h g = rw (left-here, range-gap G (R .ascends) i lo hi (R .group) q (n - i) mid F under l h g)
 
-        pub reached-down : (mid < hi → q ! i < rowAt G mid ! i) → (mid < hi → q ! i ≤ rowAt G lo ! i) → after (steps + 1) (descendFrom n G q (i + 1) lo mid) ≡ after steps (descendFrom n G q i lo hi)
+        reached-down : (mid < hi → q ! i < rowAt G mid ! i) → (mid < hi → q ! i ≤ rowAt G lo ! i) → after (steps + 1) (descendFrom n G q (i + 1) lo mid) ≡ after steps (descendFrom n G q i lo hi)
         reached-down h g =
             let e : suc n - (i + 1) ≡ n - i = omega arith in
             rw (e, add-one i, left-here) (after-one steps (descend G q (suc (n - i)) i (range lo hi)) (descend G q (n - i) (suc i) (range lo mid)) (range-down G (R .ascends) i lo hi (R .group) q (n - i) mid F under h g))
+
+-- ---- stepping along one variable
+
+module _ (n : ℕ) (G : Table) (q : Monomial) (i lo hi steps : ℕ) (within : i ≤ n) where
+  module _ (low high taken : ℕ) (S : SteppedTo n G q i lo hi steps low high taken) where
+    -- the next exponent, which does not exceed q's
+    pub stepped-next : (more : ℕ) → high < hi → rowAt G high ! i ≤ q ! i → FirstLarger G i high hi more → SteppedTo n G q i lo hi steps high more (taken + 1)
+    stepped-next more l u F = record {
+      reached = reached-above n G q i low hi taken (S .reached) within high (S .last) l;
+      under = u;
+      last = F;
+      from = omega (arith, S .from, S .last .later);
+      same = reached-next n G q i low hi taken (S .reached) within high (S .last) (S .under) l u ∙ S .same;
+    }
+
+    -- the last exponent is below q's and not the largest
+    pub stepped-gap : high < hi → q ! i < rowAt G high ! i → rowAt G low ! i < q ! i → record { found = none; steps = taken + 1; ended = i } ≡ after steps (descendFrom n G q i lo hi)
+    stepped-gap l b g = reached-gap n G q i low hi taken (S .reached) within high (S .last) (S .under) l b g ∙ S .same
+
+    -- it is q's or the largest
+    pub stepped-down : (high < hi → q ! i < rowAt G high ! i) → (high < hi → q ! i ≤ rowAt G low ! i) → after (taken + 1) (descendFrom n G q (i + 1) low high) ≡ after steps (descendFrom n G q i lo hi)
+    stepped-down b g = reached-down n G q i low hi taken (S .reached) within high (S .last) (S .under) b g ∙ S .same
+
+    pub stepped-shared : Reached n G q (i + 1) low high (taken + 1)
+    stepped-shared = reached-shared n G q i low hi taken (S .reached) within high (S .last)
 
 -- ---- the whole table
 

@@ -9,36 +9,35 @@ use lib.ListN.{length, take, drop, getD, set, replicate}
 use denote.Ref.{now}
 use borrow.Author.Needs.{needs}
 use Rattle.terms.specs.Rows.{rows}
-use Rattle.division.proofs.RangeLaws.{larger-found}
+use Rattle.division.proofs.RangeLaws.{between-within, larger-found}
 use Rattle.division.proofs.finding.larger_from.Statement.{statement}
 use Rattle.division.proofs.finding.larger_from.Tie as tie
 use Rattle.division.proofs.finding.larger_from.Reads as reads
 use Rattle.division.proofs.finding.larger_from.Lts as lts
-use Rattle.division.proofs.finding.gallop.Reads as gallop-reads
+use Rattle.division.proofs.finding.enclose.Reads as enclose-reads
 use Rattle.division.proofs.finding.narrow.Reads as narrow-reads
 use Rattle.terms.proofs.exponent.Reads as exponent-reads
 
--- src/finding.rt:76:9
+-- src/finding.rt:115:9
 exponent-requires : tie.Need-exponent-requires
 exponent-requires c κs = search needs
 
--- src/finding.rt:77:32
-gallop-requires : tie.Need-gallop-requires
-gallop-requires c κs = search needs
+-- src/finding.rt:116:32
+enclose-requires : tie.Need-enclose-requires
+enclose-requires c κs = search needs
 
--- src/finding.rt:77:5
+-- src/finding.rt:116:5
 narrow-requires : tie.Need-narrow-requires
 narrow-requires c κs = search needs
 
--- src/finding.rt:72:1
+-- src/finding.rt:111:1
 returns : tie.Need-returns
 returns c =
     let s = c .before .before .before .before in
     let a = s .args in
-    let b = c .before .gallop .result in
     let e = c .before .before .exponent .ensures in
-    larger-found (rows (a .n) (a .table .now)) (a .i .0) (a .lo .0) (a .hi .0) (b .low .0) (b .high .0) (c .narrow .result .0) (s .pre .4) (s .pre .3)
-    (rw e at (c .before .gallop .ensures)) (rw e at (c .narrow .ensures))
+    let b = between-within (c .before .enclose .ensures) (c .narrow .ensures) in
+    larger-found (rows (a .n) (a .table .now)) (a .i .0) (a .lo .0) (a .hi .0) (c .narrow .result .0) (s .pre .4) (s .pre .3) (rw e at b)
 
 pub larger-from-spec : {M : Type 1} → statement M
-larger-from-spec = tie.close (tie.spec exponent-requires gallop-requires narrow-requires returns)
+larger-from-spec = tie.close (tie.spec exponent-requires enclose-requires narrow-requires returns)

@@ -7,28 +7,26 @@
 --   each-goes-on, each-fails        a test of each variable, one after the other
 --   last-complete, next-complete, complete-fails, complete-whole, complete-none   rule 4's test, row after row from the end
 use mathlib.Core.Path.{_≡_, refl, sym, ap, _∙_, subst}
-use mathlib.Core.Bool.{Bool, true, false, not, _&&_}
+use mathlib.Core.Bool.{Bool, true, false, _&&_}
 use mathlib.Core.List.{List, [], _∷_, List·Memᴰ, List·Memᴰ·cases-cons, List·Memᴰ·not-nil}
 use mathlib.Core.Option.{Option, none, some}
-use mathlib.Core.Logic.{⊎-elim, by-cases}
-use Prim.Native.Nat.{ℕ, zero, suc, _+_, _-_, _*_, _/_, _%_, _^_, _≤_, _<_}
+use mathlib.Core.Logic.{⊎-elim}
+use Prim.Native.Nat.{ℕ, zero, suc, _+_, _-_, _/_, _%_, _^_, _≤_, _<_}
 use native.Mathlib.Nat.{not-suc-le-zero, le-of-suc-le-suc, eq-or-lt-of-le}
-use native.Mathlib.Decide.{decLe, decLt}
 use native.Mathlib.Numerals.{add-one}
 use native.Mathlib.Omega.{arith}
 use lib.ListN.{length, take, drop, set, getD, replicate, length-set}
 use lib.Seq.{take-set-lt, getD-take, length-take-le, drop-cons, drop-length, take-at}
-use Rattle.terms.specs.Tests.{pick, each, all, tests-false, tests-all, tests-as}
+use Rattle.terms.specs.Tests.{pick, each, all}
 use Rattle.terms.specs.Monomials.{Monomial, Table, _!_, rowAt, times}
 use Rattle.terms.specs.Order.{Ascending}
 use Rattle.terms.specs.Rows.{rows, padded, asRow}
-use Rattle.terms.proofs.MonomialLaws.{beyond}
-use Rattle.terms.proofs.RowsLaws.{rows-size, row-size, row-within, entry-at, member-at, padded-at}
-use Rattle.division.specs.Janet.{multiplicativeTest, marksByte, marksOf, coveredTest, completeTest}
+use Rattle.terms.proofs.RowsLaws.{rows-size, row-size, member-at, padded-at}
+use Rattle.division.specs.Janet.{multiplicativeTest, marksOf, coveredTest, completeTest}
 use Rattle.division.specs.Scan.{foundTest}
-use Rattle.division.specs.Descent.{Descent, descent}
+use Rattle.division.specs.Descent.{descent}
 use Rattle.division.specs.Ranges.{foundRow, descended}
-use Rattle.division.specs.Completeness.{Small, variableTest, rowTest}
+use Rattle.division.specs.Completeness.{variableTest, rowTest}
 use Rattle.division.proofs.MarksLaws.{marks-bit, last-marks}
 use Rattle.division.proofs.DescentLaws.{covered-found}
 use Rattle.division.specs.declared.finding.Found.the-variants as Found

@@ -8,7 +8,7 @@
 --   refuses-table, refuses-length, refuses-order, refuses-none   the number of the first check that refuses
 --   find-ready, find-length   what is known of inputs that passed
 use mathlib.Core.Path.{_≡_, refl, sym, ap, _∙_, subst}
-use mathlib.Core.List.{List, [], _∷_, _++_, List·Memᴰ·head, List·Memᴰ·tail}
+use mathlib.Core.List.{List, [], _∷_, List·Memᴰ·head, List·Memᴰ·tail}
 use mathlib.Core.Option.{Option, none, some}
 use mathlib.Core.Logic.{by-cases}
 use Prim.Native.Nat.{ℕ, zero, suc, _+_, _≤_, _<_}
@@ -20,7 +20,7 @@ use Rattle.terms.specs.Tests.{decide}
 use Rattle.terms.specs.Monomials.{degree}
 use Rattle.terms.specs.Order.{Ascending}
 use Rattle.terms.specs.Rows.{rows}
-use Rattle.terms.specs.Refusals.{Check, Accepts, refusal, tableChecks}
+use Rattle.terms.specs.Refusals.{Accepts, refusal, tableChecks}
 use Rattle.terms.proofs.OrderLaws.{tests-ascending}
 use Rattle.terms.proofs.RowsLaws.{rows-size}
 use Rattle.terms.proofs.RefusalLaws.{accepted, refusal-holds, refusal-passes, refusal-append, refusal-first}

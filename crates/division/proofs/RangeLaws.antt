@@ -11,16 +11,16 @@
 --   larger-unique    there is one first later row with a larger exponent
 use mathlib.Core.Path.{_≡_, refl, sym, ap, _∙_, subst}
 use mathlib.Core.Bool.{Bool, true, false, _||_}
-use mathlib.Core.List.{List, [], _∷_, _++_, map, List·Memᴰ, List·Memᴰ·head, List·Memᴰ·tail, List·Memᴰ·cases-cons, List·Memᴰ·not-nil, List·Memᴰ·append-cases}
-use mathlib.Core.Option.{Option, none, some}
+use mathlib.Core.List.{List, [], _∷_, _++_, map, List·Memᴰ, List·Memᴰ·head, List·Memᴰ·tail, List·Memᴰ·cases-cons, List·Memᴰ·not-nil}
+use mathlib.Core.Option.{none, some}
 use mathlib.Core.Logic.{_⊎_, inl, inr, ⊎-elim, by-cases}
 use Prim.Native.Nat.{ℕ, zero, suc, _+_, _-_, _≤_, _<_}
-use native.Mathlib.Nat.{not-suc-le-zero, le-of-suc-le-suc, eq-or-lt-of-le}
-use native.Mathlib.Decide.{decLe, decLt, ℕ-discrete}
+use native.Mathlib.Nat.{not-suc-le-zero, eq-or-lt-of-le}
+use native.Mathlib.Decide.{decLt}
 use native.Mathlib.Numerals.{add-one}
 use native.Mathlib.Omega.{arith}
-use borrow.Author.Tests.{le-ltb, lt-ltb, le-leb, lt-leb, eq-eqb, ne-eqb}
-use lib.Dec.{T, leb, ltb, eqb}
+use borrow.Author.Tests.{le-ltb, lt-ltb, le-leb, eq-eqb, ne-eqb}
+use lib.Dec.{leb, eqb}
 use lib.ListN.{length, getD}
 use Rattle.terms.specs.Tests.{all, keep, tests-true, tests-false}
 use Rattle.terms.specs.Monomials.{Monomial, Table, _!_, rowAt, SameBefore}
@@ -118,9 +118,9 @@ module _ (G : Table) (q : Monomial) (i : ℕ) where
 
   -- a group in two parts: rows that share the exponent a, which does not exceed q's, and rows that exceed it
   module _ (r : ℕ) (g above : List ℕ) (a : ℕ)
-    (share : (x : ℕ) → List·Memᴰ x (r ∷ g) → rowAt G x ! i ≡ a)
-    (exceed : (x : ℕ) → List·Memᴰ x above → a < rowAt G x ! i)
-    (under : a ≤ q ! i) where
+      (share : (x : ℕ) → List·Memᴰ x (r ∷ g) → rowAt G x ! i ≡ a)
+      (exceed : (x : ℕ) → List·Memᴰ x above → a < rowAt G x ! i)
+      (under : a ≤ q ! i) where
     stepped-parts : stepped G q i ((r ∷ g) ++ above) ≡ a ∷ stepped G q i above
     unfolding stepped exponents
     stepped-parts = rw (distinct-parts (λ s. rowAt G s ! i) a above exceed r g share, le-leb a (q ! i) under)
@@ -141,8 +141,13 @@ module _ (G : Table) (q : Monomial) (i : ℕ) where
             let n : length (stepped G q i ((r ∷ g) ++ above)) ≡ suc (length (stepped G q i above)) = ap length stepped-parts in
             let d = descend G q k (suc i) (keep (λ s. eqb (rowAt G s ! i) c) above) in
             let z : suc (length (stepped G q i above)) + d .steps ≡ 1 + (length (stepped G q i above) + d .steps) = omega arith in
-            rw (descend-on k ((r ∷ g) ++ above) c e (goesOn-above c (omega arith) ∙ t), descend-on k above c f t,
-              keep-above (λ s. rowAt G s ! i) a above exceed c less (r ∷ g) share, n, z)
+            rw (
+              descend-on k ((r ∷ g) ++ above) c e (goesOn-above c (omega arith) ∙ t),
+              descend-on k above c f t,
+              keep-above (λ s. rowAt G s ! i) a above exceed c less (r ∷ g) share,
+              n,
+              z,
+            )
         by-goesOn c less e f false t =
             let n : length (stepped G q i ((r ∷ g) ++ above)) ≡ 1 + length (stepped G q i above) = ap length stepped-parts ∙ omega arith in
             rw (descend-ends k ((r ∷ g) ++ above) c e (goesOn-above c (omega arith) ∙ t), descend-ends k above c f t, n)

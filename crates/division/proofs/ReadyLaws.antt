@@ -8,7 +8,7 @@ use Prim.Native.Nat.{ℕ, zero, suc, _+_, _*_}
 use mathlib.Core.List.{List}
 use native.Mathlib.Decide.{decLt}
 use native.Mathlib.Omega.{arith}
-use lib.ListN.{length, getD}
+use lib.ListN.{getD}
 use Rattle.terms.specs.Monomials.{rowAt}
 use Rattle.terms.specs.Order.{Ascending}
 use Rattle.terms.specs.Rows.{rows}

@@ -3,7 +3,7 @@
 --   differs-there    rows in order that are equal before i and differ at i: the first has less there
 --   differs-last     rows in order that are equal before the last variable: the first has less there
 --   marks-difference the marks of a row from those of the next
-use mathlib.Core.Path.{_≡_, sym, subst}
+use mathlib.Core.Path.{_≡_, subst}
 use mathlib.Core.Logic.{by-cases}
 use Prim.Native.Nat.{ℕ, zero, suc, _+_, _-_, _%_, _^_, _≤_, _<_}
 use native.Mathlib.Nat.{not-suc-le-zero}

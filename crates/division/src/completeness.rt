@@ -1,8 +1,12 @@
 // The check whether an ascending table is complete (rule 4): marks, and one descent for each row and variable without a mark.
-use crate::finding::{descend_table, Found};
-use crate::successor::{marks_before, marks_last};
-use terms::{row_at, Row, RowNumber, Variable};
-
+use crate::finding::Found;
+use crate::finding::descend_table;
+use crate::successor::marks_before;
+use crate::successor::marks_last;
+use terms::Row;
+use terms::RowNumber;
+use terms::Variable;
+use terms::row_at;
 ghost use mathlib.Core.Path.{_≡_};
 ghost use Prim.Native.Nat.{ℕ, _+_, _≤_, _<_};
 ghost use lib.ListN.{length, take};

@@ -1,6 +1,7 @@
 // The marks of an ascending table, row by row from its end: each row's from those of the next (rule 2).
-use terms::{exponent, RowNumber, Variable};
-
+use terms::RowNumber;
+use terms::Variable;
+use terms::exponent;
 ghost use mathlib.Core.Path.{_≡_};
 ghost use Prim.Native.Nat.{ℕ, suc, _+_, _^_, _≤_, _<_};
 ghost use lib.ListN.{length};
@@ -25,7 +26,9 @@ fn first_difference(table: &[u8], n: usize, k: RowNumber) -> Variable
     let number = k.0;
     let mut i = 1;
     while i < n {
-        if exponent(table, n, RowNumber(number), Variable(i)) != exponent(table, n, RowNumber(number + 1), Variable(i)) {
+        if exponent(table, n, RowNumber(number), Variable(i))
+            != exponent(table, n, RowNumber(number + 1), Variable(i))
+        {
             return Variable(i);
         }
         i += 1;

@@ -1,19 +1,16 @@
+-- Stepping along a variable calls for the next variable, which calls for stepping again. The measure: the rows left, which bound the exponents left, plus
+-- the variables left. They fall at the call for the next variable; `descend` calls `step` with the same, so it counts one more.
+-- Each return is a law of rule 6 over ranges: reached-end, reached-none, stepped-gap, stepped-down.
 use borrow.Author.Needs.{needs}
 use native.Mathlib.Omega.{arith}
-use borrow.Author.Tests.{le-ltb, lt-ltb, le-leb, lt-leb, eq-eqb, ne-eqb, ltb-true, ltb-false, leb-true, leb-false, eqb-true, eqb-false}
-use mathlib.Core.Path.{_≡_, refl, sym, ap, _∙_}
+use mathlib.Core.Path.{ap, _∙_}
 use mathlib.Core.Logic.{⊎-elim}
-use mathlib.Core.List.{List, [], _∷_, _++_}
-use mathlib.Core.Bool.{Bool, true, false}
-use Prim.Native.Nat.{zero, suc, _+_, _*_, _-_, _/_, _%_, _≤_}
-use lib.ListN.{length, take, drop, getD, set, replicate}
+use Prim.Native.Nat.{suc, _+_, _*_, _-_, ℕ, _<_}
 use denote.Ref.{now}
-use Prim.Native.Nat.{ℕ, _<_}
 use borrow.Fn.Kinds.{In}
 use borrow.Fn.PlainCycle.{Measures, is, falls, and}
-use Rattle.terms.specs.Monomials.{_!_, rowAt}
 use Rattle.terms.specs.Rows.{rows}
-use Rattle.division.specs.Ranges.{Reached, after, descendFrom, descended}
+use Rattle.division.specs.Ranges.{descended}
 use Rattle.division.proofs.RangeLaws.{read-at, reached-end, reached-none, stepped-gap, stepped-down, stepped-shared}
 use Rattle.division.proofs.finding.descend.Reads as descend
 use Rattle.division.proofs.finding.descend.Kinds as descend-kinds
@@ -54,7 +51,6 @@ claims t = (
   descend.Post,
 )
 
--- src/finding.rt:179:9
 descend-returns :
     (t : ℕ) → descend-lts.Need-returns (step-below t, step.Post) (descend-at t) descend.Post
 descend-returns t c =
@@ -62,29 +58,23 @@ descend-returns t c =
     let a = s .args in
     ap descended (reached-end (a .n) (rows (a .n) (a .table .now)) (a .query .now) (a .i .0) (a .lo .0) (a .hi .0) (a .steps) (s .pre .1 .1) (c .if1 .taken) (s .pre .1 .0))
 
--- src/finding.rt:181:5
 descend-step-requires :
     (t : ℕ) → descend-lts.Need-step-requires (step-below t, step.Post) (descend-at t) descend.Post
 descend-step-requires t c κs = search needs
 
--- src/finding.rt:174:1
 descend-returns-2 :
     (t : ℕ) → descend-lts.Need-returns-2 (step-below t, step.Post) (descend-at t) descend.Post
 descend-returns-2 t c = search needs
 
--- src/finding.rt:157:22
 step-sub-most : (t : ℕ) → step-lts.Need-sub-most (claims t) (step-at t) step.Post
 step-sub-most t c = search needs
 
--- src/finding.rt:157:16
 step-shared-slice-read-most : (t : ℕ) → step-lts.Need-shared-slice-read-most (claims t) (step-at t) step.Post
 step-shared-slice-read-most t c = search needs
 
--- src/finding.rt:158:15
 step-exponent-requires : (t : ℕ) → step-lts.Need-exponent-requires (claims t) (step-at t) step.Post
 step-exponent-requires t c κs = search needs
 
--- src/finding.rt:159:9
 step-returns : (t : ℕ) → step-lts.Need-returns (claims t) (step-at t) step.Post
 step-returns t c =
     let s = c .before .before .before .before .before in
@@ -92,7 +82,6 @@ step-returns t c =
     let e = read-at (a .query .now) (a .i .0) (s .pre .1 .1 .variable) in
     ap descended (reached-none (a .n) (rows (a .n) (a .table .now)) (a .query .now) (a .i .0) (a .lo .0) (a .hi .0) (a .steps) (s .pre .1 .1) (s .pre .1 .0) (omega (arith, e, c .if1 .taken, c .before .exponent .ensures)))
 
--- src/finding.rt:161:9
 step-along-requires : (t : ℕ) → step-lts.Need-along-requires (claims t) (step-at t) step.Post
 step-along-requires t c κs =
     let s = c .before .before .before .before .before in
@@ -100,15 +89,12 @@ step-along-requires t c κs =
     let e = read-at (a .query .now) (a .i .0) (s .pre .1 .1 .variable) in
     (s .pre .1 .0, s .pre .1 .1, omega (arith, e, c .if1 .left, c .before .exponent .ensures))
 
--- src/finding.rt:164:17
 step-add-taken : (t : ℕ) → step-lts.Need-add-taken (claims t) (step-at t) step.Post
 step-add-taken t c = search needs
 
--- src/finding.rt:166:12
 step-exponent-requires-2 : (t : ℕ) → step-lts.Need-exponent-requires-2 (claims t) (step-at t) step.Post
 step-exponent-requires-2 t c κs = search needs
 
--- src/finding.rt:167:13
 step-returns-2 : (t : ℕ) → step-lts.Need-returns-2 (claims t) (step-at t) step.Post
 step-returns-2 t c =
     let s = c .before .before .before .before .before .before .before .before .before .before .before .before .before .before in
@@ -116,25 +102,23 @@ step-returns-2 t c =
     let e = read-at (a .query .now) (a .i .0) (s .pre .1 .1 .variable) in
     let w = c .before .before .before .before .before .before .before .before .along in
     let x = w .result in
-    let l = c .before .before .if2 .taken in
-    ap descended (stepped-gap (a .n) (rows (a .n) (a .table .now)) (a .query .now) (a .i .0) (a .lo .0) (a .hi .0) (a .steps) (s .pre .1 .0) (x .low .0) (x .high .0) (x .steps) (w .ensures .0) l (w .ensures .1 l) (omega (arith, e, c .if3 .taken, c .before .exponent2 .ensures)))
+    let l : x .high .0 < a .hi .0 = omega (arith, c .before .before .if2 .taken) in
+    ap descended (stepped-gap (a .n) (rows (a .n) (a .table .now)) (a .query .now) (a .i .0) (a .lo .0) (a .hi .0) (a .steps) (s .pre .1 .0) (x .low .0) (x .high .0) (x .steps) (w .ensures .stepped) l (w .ensures .beyond l) (omega (arith, e, c .if3 .taken, c .before .exponent2 .ensures)))
 
--- src/finding.rt:170:39
 step-add-t14 : (t : ℕ) → step-lts.Need-add-t14 (claims t) (step-at t) step.Post
 step-add-t14 t c = search needs
 
--- src/finding.rt:170:5
 step-descend-requires : (t : ℕ) → step-lts.Need-descend-requires (claims t) (step-at t) step.Post
 step-descend-requires t c κs =
     let s = c .before .before .before .before .before .before .before .before .before .before .before .before in
     let a = s .args in
     let w = c .before .before .before .before .before .before .along in
     let x = w .result in
-    let m = s .pre .0 in
-    (omega (arith, w .ensures .0 .from, w .ensures .0 .last .later, w .ensures .0 .last .within),
-    (omega (arith, s .pre .1 .0), stepped-shared (a .n) (rows (a .n) (a .table .now)) (a .query .now) (a .i .0) (a .lo .0) (a .hi .0) (a .steps) (s .pre .1 .0) (x .low .0) (x .high .0) (x .steps) (w .ensures .0)))
+    let m = s .pre .0 in (
+      omega (arith, w .ensures .stepped .from, w .ensures .stepped .last .later, w .ensures .stepped .last .within),
+      (omega (arith, s .pre .1 .0), stepped-shared (a .n) (rows (a .n) (a .table .now)) (a .query .now) (a .i .0) (a .lo .0) (a .hi .0) (a .steps) (s .pre .1 .0) (x .low .0) (x .high .0) (x .steps) (w .ensures .stepped)),
+    )
 
--- src/finding.rt:152:1
 step-returns-3 : (t : ℕ) → step-lts.Need-returns-3 (claims t) (step-at t) step.Post
 step-returns-3 t c =
     let s = c .before .before .before .before .before .before .before .before .before .before .before .before .before in
@@ -142,7 +126,7 @@ step-returns-3 t c =
     let e = read-at (a .query .now) (a .i .0) (s .pre .1 .1 .variable) in
     let w = c .before .before .before .before .before .before .before .along in
     let x = w .result in
-    c .descend .ensures ∙ ap descended (stepped-down (a .n) (rows (a .n) (a .table .now)) (a .query .now) (a .i .0) (a .lo .0) (a .hi .0) (a .steps) (s .pre .1 .0) (x .low .0) (x .high .0) (x .steps) (w .ensures .0) (w .ensures .1)
+    c .descend .ensures ∙ ap descended (stepped-down (a .n) (rows (a .n) (a .table .now)) (a .query .now) (a .i .0) (a .lo .0) (a .hi .0) (a .steps) (s .pre .1 .0) (x .low .0) (x .high .0) (x .steps) (w .ensures .stepped) (w .ensures .beyond)
     (λ l. ⊎-elim (λ y. omega (arith, e, y .2 .left, y .1 .ensures)) (λ y. omega (arith, y .left)) (c .before .if2 .came)))
 
 pub +descend+step-spec : {M : Type 1} → statement M

@@ -1,12 +1,8 @@
+-- Invariant: row k and the next are equal before variable i. Since row k precedes the next, it has less where they first differ, at the last variable at the latest.
 use borrow.Author.Needs.{needs}
 use native.Mathlib.Omega.{arith}
-use borrow.Author.Tests.{le-ltb, lt-ltb, le-leb, lt-leb, eq-eqb, ne-eqb, ltb-true, ltb-false, leb-true, leb-false, eqb-true, eqb-false}
-use mathlib.Core.Path.{_≡_, refl, sym, ap, _∙_}
-use mathlib.Core.Logic.{⊎-elim}
-use mathlib.Core.List.{List, [], _∷_, _++_}
-use mathlib.Core.Bool.{Bool, true, false}
-use Prim.Native.Nat.{ℕ, zero, suc, _+_, _*_, _-_, _/_, _%_, _≤_, _<_}
-use lib.ListN.{length, take, drop, getD, set, replicate}
+use mathlib.Core.Path.{_≡_, sym, _∙_}
+use Prim.Native.Nat.{suc, _-_, _≤_, _<_}
 use denote.Ref.{now}
 use native.Mathlib.Numerals.{add-one}
 use Rattle.terms.specs.Monomials.{_!_, rowAt, SameBefore}
@@ -16,9 +12,6 @@ use Rattle.terms.proofs.RowsLaws.{row-size}
 use Rattle.division.proofs.SuccessorLaws.{differs-there, differs-last}
 use Rattle.division.proofs.successor.first_difference.Statement.{statement}
 use Rattle.division.proofs.successor.first_difference.Tie as tie
-use Rattle.division.proofs.successor.first_difference.Reads as reads
-use Rattle.division.proofs.successor.first_difference.Lts as lts
-use Rattle.terms.proofs.exponent.Reads as exponent-reads
 
 abbrev Inv-loop : tie.InvT-loop
 Inv-loop table n number i₀ i = (0 < i) × (i ≤ n) × SameBefore i (rowAt (rows n table) number) (rowAt (rows n table) (suc number))
@@ -26,23 +19,18 @@ Inv-loop table n number i₀ i = (0 < i) × (i ≤ n) × SameBefore i (rowAt (ro
 abbrev μ-loop : tie.MeasureT-loop
 μ-loop table n number i₀ i = n - i
 
--- src/successor.rt:27:5
 loop-holds : tie.Need-loop-holds Inv-loop μ-loop
 loop-holds c = let a = c .before .args in (omega arith, omega (arith, c .before .pre .0 .some), before-first (rowAt (rows (a .n) (a .table .now)) (a .k .0)) (rowAt (rows (a .n) (a .table .now)) (suc (a .k .0))))
 
--- src/successor.rt:28:12
 exponent-requires : tie.Need-exponent-requires Inv-loop μ-loop
 exponent-requires c κs = search needs
 
--- src/successor.rt:28:95
 add-t11 : tie.Need-add-t11 Inv-loop μ-loop
 add-t11 c = search needs
 
--- src/successor.rt:28:66
 exponent-requires-2 : tie.Need-exponent-requires-2 Inv-loop μ-loop
 exponent-requires-2 c κs = search needs
 
--- src/successor.rt:29:13
 returns : tie.Need-returns Inv-loop μ-loop
 returns c =
     let s = c .before .before .before .before .before .before in
@@ -58,26 +46,25 @@ returns c =
           (λ z. c .if1 .taken (c .before .before .exponent .ensures ∙ z ∙ sym f));
     }
 
--- src/successor.rt:31:9
 add-i : tie.Need-add-i Inv-loop μ-loop
 add-i c = search needs
 
--- src/successor.rt:27:5
 loop-less : tie.Need-loop-less Inv-loop μ-loop
 loop-less c = search needs
 
--- src/successor.rt:27:5
 loop-again : tie.Need-loop-again Inv-loop μ-loop
 loop-again c =
     let s = c .before .before .before .before .before .before in
     let a = s .args in
     let G = rows (a .n) (a .table .now) in
     let l = c .before .before .before .before .loop in
-    let f : c .before .exponent2 .result ≡ rowAt G (suc (a .k .0)) ! l .i = rw (add-one (a .k .0)) at (c .before .exponent2 .ensures) in
-    (omega arith, omega arith, rw (add-one (l .i)) (before-suc (l .i) (rowAt G (a .k .0)) (rowAt G (suc (a .k .0))) (l .inv .2)
-    (sym (c .before .before .exponent .ensures) ∙ c .if1 .left ∙ f)))
+    let f : c .before .exponent2 .result ≡ rowAt G (suc (a .k .0)) ! l .i = rw (add-one (a .k .0)) at (c .before .exponent2 .ensures) in (
+      omega arith,
+      omega arith,
+      rw (add-one (l .i)) (before-suc (l .i) (rowAt G (a .k .0)) (rowAt G (suc (a .k .0))) (l .inv .2)
+          (sym (c .before .before .exponent .ensures) ∙ c .if1 .left ∙ f)),
+    )
 
--- src/successor.rt:21:1
 returns-2 : tie.Need-returns-2 Inv-loop μ-loop
 returns-2 c =
     let s = c .before .before .before in

@@ -1,14 +1,9 @@
+-- The law of successors (marks-difference), with the three powers in their places; the sum is the row's marks, so it fits a byte.
 use native.Mathlib.Omega.{arith}
-use borrow.Author.Tests.{le-ltb, lt-ltb, le-leb, lt-leb, eq-eqb, ne-eqb, ltb-true, ltb-false, leb-true, leb-false, eqb-true, eqb-false}
-use mathlib.Core.Path.{_≡_, refl, sym, ap, _∙_}
-use mathlib.Core.Logic.{⊎-elim}
-use mathlib.Core.List.{List, [], _∷_, _++_}
-use mathlib.Core.Bool.{Bool, true, false}
-use Prim.Native.Nat.{ℕ, zero, suc, _+_, _*_, _-_, _/_, _%_, _≤_, _<_}
-use lib.ListN.{length, take, drop, getD, set, replicate}
+use mathlib.Core.Path.{_≡_}
+use Prim.Native.Nat.{_+_, _-_, _%_, _≤_, _^_}
 use denote.Ref.{now}
 use borrow.Author.Needs.{needs}
-use Prim.Native.Nat.{_^_}
 use lib.Pow.{pow-pos, pow-mono}
 use Rattle.terms.specs.Monomials.{rowAt}
 use Rattle.terms.specs.Rows.{rows}
@@ -17,43 +12,31 @@ use Rattle.division.proofs.MarksLaws.{marksOf-below}
 use Rattle.division.proofs.SuccessorLaws.{marks-difference}
 use Rattle.division.proofs.successor.marks_before.Statement.{statement}
 use Rattle.division.proofs.successor.marks_before.Tie as tie
-use Rattle.division.proofs.successor.marks_before.Reads as reads
-use Rattle.division.proofs.successor.marks_before.Lts as lts
-use Rattle.division.proofs.successor.first_difference.Reads as first-difference-reads
-use Rattle.division.proofs.successor.power.Reads as power-reads
 
--- src/successor.rt:50:9
 first-difference-requires : tie.Need-first-difference-requires
 first-difference-requires c κs = search needs
 
--- src/successor.rt:52:18
 sub-power : tie.Need-sub-power
 sub-power c = search needs
 
--- src/successor.rt:52:12
 power-requires : tie.Need-power-requires
 power-requires c κs = search needs
 
--- src/successor.rt:52:5
 rem-result : tie.Need-rem-result
 rem-result c = omega (arith, c .power .ensures, pow-pos (c .before .first-difference .result .0 - 1))
 
--- src/successor.rt:52:35
 power-requires-2 : tie.Need-power-requires-2
 power-requires-2 c κs = search needs
 
--- src/successor.rt:52:46
 power-requires-3 : tie.Need-power-requires-3
 power-requires-3 c κs = search needs
 
--- src/successor.rt:52:35
 sub-result : tie.Need-sub-result
 sub-result c =
     let d = c .before .before .before .first-difference in
     let w : 2 ^ d .result .0 ≤ 2 ^ c .before .before .before .before .before .args .n = pow-mono (d .ensures .within) in
     omega (arith, c .power3 .ensures, c .before .power2 .ensures)
 
--- src/successor.rt:52:5
 add-result : tie.Need-add-result
 add-result c =
     let s = c .before .before .before .before .before in
@@ -68,7 +51,6 @@ add-result c =
     let w : 2 ^ a .n ≤ 64 = pow-mono (s .pre .0 .few) in
     omega (arith, e, marksOf-below (a .n) G (rowAt G (a .k .0)))
 
--- src/successor.rt:46:1
 returns : tie.Need-returns
 returns c =
     let s = c .before .before .before .before .before in

@@ -142,7 +142,8 @@ module _ (n : ℕ) (G : Table) where
       go [] h = refl
       go (u ∷ H) h = absurd (omega arith)
 
-  pub next-complete : (k : ℕ) → k < length G → rowTest n G (rowAt G k) ≡ true → all (rowTest n G) (drop (suc k) G) ≡ true → all (rowTest n G) (drop k G) ≡ true
+  pub next-complete : (k : ℕ) → k < length G → rowTest n G (rowAt G k) ≡ true → all (rowTest n G) (drop (suc k) G) ≡ true
+      → all (rowTest n G) (drop k G) ≡ true
   next-complete k l h e = rw (drop-cons G k [] l, h) e
 
   -- the last row has every mark

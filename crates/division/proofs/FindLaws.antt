@@ -28,7 +28,8 @@ use Rattle.division.specs.Janet.{Multiplicative}
 use Rattle.division.specs.Scan.{Answers}
 use Rattle.division.specs.Descent.{Descent, descent}
 use Rattle.division.specs.Ranges.{Ready, foundRow, descended}
-use Rattle.division.specs.Operations.{NotAscending, lengthCheck, orderCheck, findChecks, findNumber, findRow, findSteps, findGives, findCase, findAnswer, FindPromise}
+use Rattle.division.specs.Operations.{NotAscending, lengthCheck, orderCheck, findChecks, findNumber}
+use Rattle.division.specs.Operations.{findRow, findSteps, findGives, findCase, findAnswer, FindPromise}
 use Rattle.division.proofs.DescentLaws.{descent-finds, descent-steps}
 use Rattle.division.proofs.ReadyLaws.{table-ready}
 use Rattle.division.specs.declared.finding.FindAnswer.{FindAnswer}
@@ -82,7 +83,8 @@ find-make {n} {table} {query} e = record {
 }
 
 module _ (n : ℕ) (table query : List ℕ) where
-  pub find-accepts : refusal (findChecks n table query) ≡ 0 → FindPromise n table query (findGives (descent n (rows n table) query .found) (descent n (rows n table) query .steps))
+  pub find-accepts : refusal (findChecks n table query) ≡ 0
+      → FindPromise n table query (findGives (descent n (rows n table) query .found) (descent n (rows n table) query .steps))
   unfolding findAnswer
   find-accepts e = find-make (ap (λ (m : ℕ). findCase m (descent n (rows n table) query)) (sym e))
 
@@ -107,7 +109,8 @@ module _ (n : ℕ) (table query : List ℕ) where
 
     pub refuses-none : length query ≡ n → Ascending (rows n table) → 0 ≡ refusal (findChecks n table query)
     unfolding refusal
-    refuses-none e h = sym (own-checks ∙ refusal-passes (lengthCheck n query) (orderCheck n table ∷ []) (λ f. f e) ∙ refusal-passes (orderCheck n table) [] (λ f. f h))
+    refuses-none e h = sym (own-checks ∙ refusal-passes (lengthCheck n query) (orderCheck n table ∷ []) (λ f. f e) ∙ refusal-passes
+        (orderCheck n table) [] (λ f. f h))
 
   -- ---- inputs that passed
 
@@ -146,5 +149,6 @@ module _ (n : ℕ) (table query : List ℕ) where
         (descent-finds (rows-size n table) query (find-length e))
 
     pub find-steps : findSteps answer ≤ degree query + n
-    find-steps = rw (ap findSteps (find-unique p (find-accepts e)) ∙ gives-steps (descent n (rows n table) query .found) (descent n (rows n table) query .steps))
+    find-steps = rw (ap findSteps (find-unique p (find-accepts e)) ∙ gives-steps (descent n (rows n table) query .found)
+        (descent n (rows n table) query .steps))
         (descent-steps n (rows n table) query (find-length e))

@@ -7,7 +7,7 @@ use denote.Ref.{now}
 use borrow.Author.Needs.{needs}
 use Rattle.terms.specs.Rows.{rows}
 use Rattle.division.specs.Janet.{coveredTest}
-use Rattle.division.proofs.RangeLaws.{read-at}
+use Rattle.division.proofs.SteppingLaws.{read-at}
 use Rattle.division.proofs.CompleteLaws.{product-length, product-times, covered-row, covered-nothing}
 use Rattle.division.proofs.completeness.covered.Statement.{statement}
 use Rattle.division.proofs.completeness.covered.Tie as tie

@@ -43,14 +43,17 @@ covered-requires : tie.Need-covered-requires Inv-loop μ-loop
 covered-requires c κs =
     let s = c .before .before .before .before .before in
     let a = s .args in
-    let G = rows (a .n) (a .table .now) in
-    let u = rowAt G (a .k .0) in
     let l = c .before .before .loop in
     let r = c .before .before .before .row-at in (
       s .pre .0,
       omega arith,
       omega arith,
-      omega (arith, read-exponent (a .n) (a .table .now) (a .k .0) (s .pre .2) (r .result) (r .ensures) (l .i + 1), s .pre .1 (a .k .0) (s .pre .2) (l .i + 1)),
+      omega (
+        arith,
+        read-exponent (a .n) (a .table .now) (a .k .0) (s .pre .2) (r .result) (r .ensures) (l .i + 1),
+        s .pre .1 (a .k .0) (s .pre .2)
+            (l .i + 1),
+      ),
     )
 
 returns : tie.Need-returns Inv-loop μ-loop
@@ -99,8 +102,6 @@ unfolding rowTest
 returns-2 c =
     let s = c .before .before .before .before in
     let a = s .args in
-    let G = rows (a .n) (a .table .now) in
-    let u = rowAt G (a .k .0) in
     let l = c .before .loop in
     let r = c .before .before .row-at in
     let w = read-row (a .n) (a .table .now) (a .k .0) (s .pre .2) (r .result) (r .ensures) in

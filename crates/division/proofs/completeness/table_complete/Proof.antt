@@ -20,7 +20,8 @@ use Rattle.division.proofs.completeness.table_complete.Tie as tie
 
 abbrev Inv-loop : tie.InvT-loop
 Inv-loop n table count k₀ marks₀ k marks =
-    (k < length (rows n table)) × (marks ≡ marksOf n (rows n table) (rowAt (rows n table) k)) × (all (rowTest n (rows n table)) (drop k (rows n table)) ≡ true)
+    (k < length (rows n table)) × (marks ≡ marksOf n (rows n table) (rowAt (rows n table) k)) ×
+    (all (rowTest n (rows n table)) (drop k (rows n table)) ≡ true)
 
 abbrev μ-loop : tie.MeasureT-loop
 μ-loop n table count k₀ marks₀ k marks = k
@@ -58,8 +59,6 @@ sub-k-2 c = search needs
 marks-before-requires : tie.Need-marks-before-requires Inv-loop μ-loop
 marks-before-requires c κs =
     let s = c .before .before .before .before .before in
-    let a = s .args in
-    let G = rows (a .n) (a .table .now) in
     let l = c .before .loop in
     let back : suc (l .k - 1) ≡ l .k = omega arith in
     (s .pre .0, omega (arith, l .inv .0), rw back (l .inv .1))
@@ -67,8 +66,6 @@ marks-before-requires c κs =
 row-complete-requires : tie.Need-row-complete-requires Inv-loop μ-loop
 row-complete-requires c κs =
     let s = c .before .before .before .before .before .before in
-    let a = s .args in
-    let G = rows (a .n) (a .table .now) in
     let l = c .before .before .loop in
     let back : suc (l .k - 1) ≡ l .k = omega arith in
     (s .pre .0, s .pre .1, omega (arith, l .inv .0), c .marks-before .ensures)
@@ -94,7 +91,8 @@ loop-again c =
     let back : suc (l .k - 1) ≡ l .k = omega arith in (
       omega (arith, l .inv .0),
       c .before .before .marks-before .ensures,
-      next-complete (a .n) G (l .k - 1) (omega (arith, l .inv .0)) (sym (c .before .row-complete .ensures) ∙ not-false _ (c .if2 .left)) (rw back (l .inv .2)),
+      next-complete (a .n) G (l .k - 1) (omega (arith, l .inv .0)) (sym (c .before .row-complete .ensures) ∙ not-false _ (c .if2 .left))
+          (rw back (l .inv .2)),
     )
 
 returns-3 : tie.Need-returns-3 Inv-loop μ-loop

@@ -11,7 +11,7 @@ use borrow.Fn.Kinds.{In}
 use borrow.Fn.PlainCycle.{Measures, is, falls, and}
 use Rattle.terms.specs.Rows.{rows}
 use Rattle.division.specs.Ranges.{descended}
-use Rattle.division.proofs.RangeLaws.{read-at, reached-end, reached-none, stepped-gap, stepped-down, stepped-shared}
+use Rattle.division.proofs.SteppingLaws.{read-at, reached-end, reached-none, stepped-gap, stepped-down, stepped-shared}
 use Rattle.division.proofs.finding.descend.Reads as descend
 use Rattle.division.proofs.finding.descend.Kinds as descend-kinds
 use Rattle.division.proofs.finding.+descend+step.Lts-descend as descend-lts
@@ -55,8 +55,7 @@ descend-returns :
     (t : ℕ) → descend-lts.Need-returns (step-below t, step.Post) (descend-at t) descend.Post
 descend-returns t c =
     let s = c .before .before .before .before in
-    let a = s .args in
-    ap descended (reached-end (a .n) (rows (a .n) (a .table .now)) (a .query .now) (a .i .0) (a .lo .0) (a .hi .0) (a .steps) (s .pre .1 .1) (c .if1 .taken) (s .pre .1 .0))
+    ap descended (reached-end (s .pre .1 .1) (c .if1 .taken) (s .pre .1 .0))
 
 descend-step-requires :
     (t : ℕ) → descend-lts.Need-step-requires (step-below t, step.Post) (descend-at t) descend.Post
@@ -80,7 +79,7 @@ step-returns t c =
     let s = c .before .before .before .before .before in
     let a = s .args in
     let e = read-at (a .query .now) (a .i .0) (s .pre .1 .1 .variable) in
-    ap descended (reached-none (a .n) (rows (a .n) (a .table .now)) (a .query .now) (a .i .0) (a .lo .0) (a .hi .0) (a .steps) (s .pre .1 .1) (s .pre .1 .0) (omega (arith, e, c .if1 .taken, c .before .exponent .ensures)))
+    ap descended (reached-none (s .pre .1 .1) (s .pre .1 .0) (omega (arith, e, c .if1 .taken, c .before .exponent .ensures)))
 
 step-along-requires : (t : ℕ) → step-lts.Need-along-requires (claims t) (step-at t) step.Post
 step-along-requires t c κs =
@@ -103,7 +102,7 @@ step-returns-2 t c =
     let w = c .before .before .before .before .before .before .before .before .along in
     let x = w .result in
     let l : x .high .0 < a .hi .0 = omega (arith, c .before .before .if2 .taken) in
-    ap descended (stepped-gap (a .n) (rows (a .n) (a .table .now)) (a .query .now) (a .i .0) (a .lo .0) (a .hi .0) (a .steps) (s .pre .1 .0) (x .low .0) (x .high .0) (x .steps) (w .ensures .stepped) l (w .ensures .beyond l) (omega (arith, e, c .if3 .taken, c .before .exponent2 .ensures)))
+    ap descended (stepped-gap (s .pre .1 .0) (w .ensures .stepped) l (w .ensures .beyond l) (omega (arith, e, c .if3 .taken, c .before .exponent2 .ensures)))
 
 step-add-t14 : (t : ℕ) → step-lts.Need-add-t14 (claims t) (step-at t) step.Post
 step-add-t14 t c = search needs
@@ -111,12 +110,10 @@ step-add-t14 t c = search needs
 step-descend-requires : (t : ℕ) → step-lts.Need-descend-requires (claims t) (step-at t) step.Post
 step-descend-requires t c κs =
     let s = c .before .before .before .before .before .before .before .before .before .before .before .before in
-    let a = s .args in
     let w = c .before .before .before .before .before .before .along in
-    let x = w .result in
     let m = s .pre .0 in (
       omega (arith, w .ensures .stepped .from, w .ensures .stepped .last .later, w .ensures .stepped .last .within),
-      (omega (arith, s .pre .1 .0), stepped-shared (a .n) (rows (a .n) (a .table .now)) (a .query .now) (a .i .0) (a .lo .0) (a .hi .0) (a .steps) (s .pre .1 .0) (x .low .0) (x .high .0) (x .steps) (w .ensures .stepped)),
+      (omega (arith, s .pre .1 .0), stepped-shared (s .pre .1 .0) (w .ensures .stepped)),
     )
 
 step-returns-3 : (t : ℕ) → step-lts.Need-returns-3 (claims t) (step-at t) step.Post
@@ -125,8 +122,7 @@ step-returns-3 t c =
     let a = s .args in
     let e = read-at (a .query .now) (a .i .0) (s .pre .1 .1 .variable) in
     let w = c .before .before .before .before .before .before .before .along in
-    let x = w .result in
-    c .descend .ensures ∙ ap descended (stepped-down (a .n) (rows (a .n) (a .table .now)) (a .query .now) (a .i .0) (a .lo .0) (a .hi .0) (a .steps) (s .pre .1 .0) (x .low .0) (x .high .0) (x .steps) (w .ensures .stepped) (w .ensures .beyond)
+    c .descend .ensures ∙ ap descended (stepped-down (s .pre .1 .0) (w .ensures .stepped) (w .ensures .beyond)
     (λ l. ⊎-elim (λ y. omega (arith, e, y .2 .left, y .1 .ensures)) (λ y. omega (arith, y .left)) (c .before .if2 .came)))
 
 pub +descend+step-spec : {M : Type 1} → statement M

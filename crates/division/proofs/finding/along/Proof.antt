@@ -6,7 +6,7 @@ use Prim.Native.Nat.{_+_, _-_}
 use denote.Ref.{now}
 use Rattle.terms.specs.Rows.{rows}
 use Rattle.division.specs.Ranges.{Reached, SteppedTo}
-use Rattle.division.proofs.RangeLaws.{read-at, reached-above, stepped-next}
+use Rattle.division.proofs.SteppingLaws.{read-at, reached-above, stepped-next}
 use Rattle.division.proofs.finding.along.Statement.{statement}
 use Rattle.division.proofs.finding.along.Tie as tie
 
@@ -36,7 +36,6 @@ returns : tie.Need-returns Inv-loop μ-loop
 returns c =
     let s = c .before .before .before .before .before .before .before .before in
     let a = s .args in
-    let G = rows (a .n) (a .table .now) in
     let l = c .before .before .before .loop in
     let e = read-at (a .query .now) (a .i .0) (s .pre .1 .variable) in
     record { stepped = l .inv; beyond = λ h. omega (arith, e, c .if1 .taken, c .before .exponent .ensures) }
@@ -55,7 +54,7 @@ larger-from-requires-2 c κs =
     let l = c .before .before .before .loop in
     let e = read-at (a .query .now) (a .i .0) (s .pre .1 .variable) in
     let r : Reached (a .n) G (a .query .now) (a .i .0) (l .high) (a .hi .0) (l .taken + 1) =
-    reached-above (a .n) G (a .query .now) (a .i .0) (l .low) (a .hi .0) (l .taken) (l .inv .reached) (s .pre .0) (l .high) (l .inv .last) (c .before .before .loop-test .taken) in
+    reached-above (l .inv .reached) (s .pre .0) (l .inv .last) (c .before .before .loop-test .taken) in
     (s .pre .1 .variable, s .pre .0, omega (arith, r .limited, r .group .within), r .group, r .ascends, omega (arith, l .inv .last .later))
 
 loop-less : tie.Need-loop-less Inv-loop μ-loop
@@ -65,11 +64,10 @@ loop-again : tie.Need-loop-again Inv-loop μ-loop
 loop-again c =
     let s = c .before .before .before .before .before .before .before .before .before in
     let a = s .args in
-    let G = rows (a .n) (a .table .now) in
     let l = c .before .before .before .before .loop in
     let e = read-at (a .query .now) (a .i .0) (s .pre .1 .variable) in
-    stepped-next (a .n) G (a .query .now) (a .i .0) (a .lo .0) (a .hi .0) (a .steps) (s .pre .0) (l .low) (l .high) (l .taken) (l .inv) (c .larger-from2 .result .0)
-    (c .before .before .before .loop-test .taken) (omega (arith, e, c .before .if1 .left, c .before .before .exponent .ensures)) (c .larger-from2 .ensures)
+    stepped-next (s .pre .0) (l .inv) (c .before .before .before .loop-test .taken)
+    (omega (arith, e, c .before .if1 .left, c .before .before .exponent .ensures)) (c .larger-from2 .ensures)
 
 returns-2 : tie.Need-returns-2 Inv-loop μ-loop
 returns-2 c = search needs

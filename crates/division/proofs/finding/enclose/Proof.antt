@@ -1,11 +1,12 @@
--- Behind a row whose exponent is not above `least` the search goes on from it; before one whose exponent is above it goes back, in a bracket of the whole range.
+-- Behind a row whose exponent is not above `least` the search goes on from it; before one whose exponent is above it goes back, in a bracket of the
+-- whole range.
 use native.Mathlib.Omega.{arith}
 use Prim.Native.Nat.{_+_}
 use denote.Ref.{now}
 use borrow.Author.Needs.{needs}
 use Rattle.terms.specs.Rows.{rows}
 use Rattle.division.specs.Ranges.{Between}
-use Rattle.division.proofs.RangeLaws.{between-within}
+use Rattle.division.proofs.SteppingLaws.{between-within}
 use Rattle.division.proofs.finding.enclose.Statement.{statement}
 use Rattle.division.proofs.finding.enclose.Tie as tie
 

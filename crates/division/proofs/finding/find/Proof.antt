@@ -18,7 +18,8 @@ returns c =
     let s = c .before .before .before .before in
     let a = s .args in
     let e = c .before .find-refusal .ensures in
-    subst (λ (m : ℕ). FindPromise (a .n) (a .table .now) (a .query .now) (Refused m)) (sym e) (find-refuses (a .n) (a .table .now) (a .query .now) (omega (arith, e, c .if1 .taken)))
+    subst (λ (m : ℕ). FindPromise (a .n) (a .table .now) (a .query .now) (Refused m)) (sym e)
+    (find-refuses (a .n) (a .table .now) (a .query .now) (omega (arith, e, c .if1 .taken)))
 
 descend-table-requires : tie.Need-descend-table-requires
 descend-table-requires c κs =

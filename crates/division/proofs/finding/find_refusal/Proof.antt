@@ -33,20 +33,23 @@ ascends-requires : tie.Need-ascends-requires
 ascends-requires c κs =
     let s = c .before .before .before .before .before in
     let a = s .args in
-    table-accepted (a .n) (a .table .now) (accepted (tableChecks (a .n) (a .table .now)) (sym (c .before .before .table-refusal .ensures) ∙ c .before .if1 .left)) .some
+    table-accepted (a .n) (a .table .now) (accepted (tableChecks (a .n) (a .table .now))
+    (sym (c .before .before .table-refusal .ensures) ∙ c .before .if1 .left)) .some
 
 returns-3 : tie.Need-returns-3
 returns-3 c =
     let s = c .before .before .before .before .before .before .before in
     let a = s .args in
-    refuses-order (a .n) (a .table .now) (a .query .now) (sym (c .before .before .before .before .table-refusal .ensures) ∙ c .before .before .before .if1 .left) (c .before .before .if2 .left)
+    refuses-order (a .n) (a .table .now) (a .query .now) (sym (c .before .before .before .before .table-refusal .ensures)
+    ∙ c .before .before .before .if1 .left) (c .before .before .if2 .left)
     (false-tests (tests-ascending (rows (a .n) (a .table .now))) (sym (c .before .ascends .ensures) ∙ not-true _ (c .if3 .taken)))
 
 returns-4 : tie.Need-returns-4
 returns-4 c =
     let s = c .before .before .before .before .before .before .before in
     let a = s .args in
-    refuses-none (a .n) (a .table .now) (a .query .now) (sym (c .before .before .before .before .table-refusal .ensures) ∙ c .before .before .before .if1 .left) (c .before .before .if2 .left)
+    refuses-none (a .n) (a .table .now) (a .query .now) (sym (c .before .before .before .before .table-refusal .ensures)
+    ∙ c .before .before .before .if1 .left) (c .before .before .if2 .left)
     (true-tests (tests-ascending (rows (a .n) (a .table .now))) (sym (c .before .ascends .ensures) ∙ not-false _ (c .if3 .left)))
 
 pub find-refusal-spec : {M : Type 1} → statement M

@@ -1,8 +1,7 @@
 -- Two neighbouring rows that are a bracket of the range: since its exponents ascend, the second is the first later row with a larger exponent.
-use denote.Ref.{now}
 use borrow.Author.Needs.{needs}
 use Rattle.terms.specs.Rows.{rows}
-use Rattle.division.proofs.RangeLaws.{between-within, larger-found}
+use Rattle.division.proofs.SteppingLaws.{between-within, larger-found}
 use Rattle.division.proofs.finding.larger_from.Statement.{statement}
 use Rattle.division.proofs.finding.larger_from.Tie as tie
 
@@ -18,10 +17,9 @@ narrow-requires c κs = search needs
 returns : tie.Need-returns
 returns c =
     let s = c .before .before .before .before in
-    let a = s .args in
     let e = c .before .before .exponent .ensures in
     let b = between-within (c .before .enclose .ensures) (c .narrow .ensures) in
-    larger-found (rows (a .n) (a .table .now)) (a .i .0) (a .lo .0) (a .hi .0) (c .narrow .result .0) (s .pre .4) (s .pre .3) (rw e at b)
+    larger-found (c .narrow .result .0) (s .pre .4) (s .pre .3) (rw e at b)
 
 pub larger-from-spec : {M : Type 1} → statement M
 larger-from-spec = tie.close (tie.spec exponent-requires enclose-requires narrow-requires returns)

@@ -1,4 +1,5 @@
--- Invariant: row k and the next are equal before variable i. Since row k precedes the next, it has less where they first differ, at the last variable at the latest.
+-- Invariant: row k and the next are equal before variable i. Since row k precedes the next, it has less where they first differ, at the last
+-- variable at the latest.
 use borrow.Author.Needs.{needs}
 use native.Mathlib.Omega.{arith}
 use mathlib.Core.Path.{_≡_, sym, _∙_}
@@ -20,7 +21,12 @@ abbrev μ-loop : tie.MeasureT-loop
 μ-loop table n number i₀ i = n - i
 
 loop-holds : tie.Need-loop-holds Inv-loop μ-loop
-loop-holds c = let a = c .before .args in (omega arith, omega (arith, c .before .pre .0 .some), before-first (rowAt (rows (a .n) (a .table .now)) (a .k .0)) (rowAt (rows (a .n) (a .table .now)) (suc (a .k .0))))
+loop-holds c = let a = c .before .args in (
+  omega arith,
+  omega (arith, c .before .pre .0 .some),
+  before-first
+      (rowAt (rows (a .n) (a .table .now)) (a .k .0)) (rowAt (rows (a .n) (a .table .now)) (suc (a .k .0))),
+)
 
 exponent-requires : tie.Need-exponent-requires Inv-loop μ-loop
 exponent-requires c κs = search needs

@@ -118,7 +118,7 @@ def main():
             print(f'gate: {step.__name__}: holds', flush=True)
         passed += closing_number([sys.executable, 'tests/counters.py'])
         passed += closing_number(['rt', 'ci'])
-        if os.path.isdir(os.path.join(ROOT, 'rust')):
+        if os.path.isdir(os.path.join(ROOT, 'crates/janet')):
             passed += closing_number(['bash', 'tests/comparisons'])
     except Fault as fault:
         print(f'gate: {fault}')

@@ -10,7 +10,7 @@
 --   choose-within          no C(t, m) with m up to 6 and t up to 300 + m exceeds it
 use mathlib.Core.Path.{_≡_, refl, sym, ap, _∙_}
 use Prim.Native.Nat.{ℕ, zero, suc, _+_, _*_, _-_, _≤_, _<_}
-use native.Mathlib.Nat.{not-suc-le-zero, le-of-suc-le-suc, suc-mul, mul-add, mul-one, one-mul, mul-zero}
+use native.Mathlib.Nat.{not-suc-le-zero, le-of-suc-le-suc, suc-mul, mul-add}
 use native.Mathlib.Omega.{arith}
 use Rattle.binomial.specs.Choose.{choose}
 

@@ -3,7 +3,7 @@
 --   Laid, laid               what is known of a bundle whose layout passed: frame, each table's rows and place, its end
 --   from-place               what stands from body j on is body j and what stands from the next on
 --   entries-here             4 over all bodies is one pass over what stands behind the header
---   Accepted, accepted-bundle   what is known of an accepted bundle
+--   Accepted, accepted-bundle, bundle-accepted   what is known of an accepted bundle, and that this is enough
 --   length-body, length-table, flat-table   a table of it: the length of its body, its number of rows, its bytes again
 --   table-passes-checks      a table of it passes the checks 1 to 4 that every operation on a table begins with
 use mathlib.Core.Path.{_≡_, refl, sym, ap, _∙_, subst}
@@ -16,15 +16,16 @@ use native.Mathlib.Omega.{arith}
 use lib.Dec.{ltb}
 use lib.ListN.{length, take, drop, take-append-drop, drop-of-length-le, length-drop}
 use lib.Seq.{drop-drop, length-take-le}
-use Rattle.terms.specs.Tests.{any, tests-same}
+use Rattle.terms.specs.Tests.{any, tests-same, tests-as}
 use Rattle.terms.specs.Rows.{flat}
 use Rattle.terms.specs.Refusals.{refusal, Accepts, NotOneToSix, NoMultiple, TooManyRows, EntryAbove50, tests-entryAbove50, tableChecks}
 use Rattle.terms.proofs.RowsLaws.{length-rows, flat-rows}
 use Rattle.terms.proofs.RefusalLaws.{accepted, refusal-passes}
 use Rattle.bundle.specs.Some.{SomeBelow}
-use Rattle.bundle.specs.Format.{variablesOf, tableCount, headerLength, rowCount, bodyLength, placeOf, bodyOf, tableOf}
-use Rattle.bundle.specs.Checks.{frameChecks, tablesChecks, remainChecks, layoutChecks, entryChecks, bundleChecks, largeEntryTest, tests-largeEntry}
-use Rattle.bundle.proofs.CheckLaws.{refusal-none, accepts-left, accepts-right, Framed, framed-accepts, TableLaid, tables-laid}
+use Rattle.bundle.specs.Format.{variablesOf, tableCount, headerLength, rowCount, offsetOf, bodyLength, placeOf, bodyOf, tableOf}
+use Rattle.bundle.specs.Checks.{LargeEntry, frameChecks, tableChecksOf, tablesChecks, remainChecks, layoutChecks, entryChecks, bundleChecks, largeEntryTest, tests-largeEntry}
+use Rattle.bundle.proofs.CheckLaws.{refusal-none, passes-first, accepts-left, accepts-right}
+use Rattle.bundle.proofs.CheckLaws.{Framed, framed-accepts, has-frame, frame-passes, TableLaid, tables-laid, table-passes}
 
 -- ---- the layout
 
@@ -44,7 +45,8 @@ laid-accepts b a =
     let rest = tablesChecks b 0 (tableCount b) ++ remainChecks b in
     let frame = framed-accepts b (accepts-left (frameChecks b) rest a) in
     let later = accepts-right (frameChecks b) rest a in
-    let each : (j : ℕ) → j < tableCount b → TableLaid b j = λ j h. tables-laid b (tableCount b) 0 (accepts-left (tablesChecks b 0 (tableCount b)) (remainChecks b) later) j (omega arith) (omega arith) in
+    let first = accepts-left (tablesChecks b 0 (tableCount b)) (remainChecks b) later in
+    let each : (j : ℕ) → j < tableCount b → TableLaid b j = λ j h. tables-laid b (tableCount b) 0 first j (omega arith) (omega arith) in
     let last = last-within b (tableCount b) (frame .someTables) each in
     record {
       frame = frame;
@@ -94,15 +96,16 @@ in-body b e (suc n) j h m =
 -- and an element of a body stands behind the header
 behind-header : (b : List ℕ) (e j : ℕ) → List·Memᴰ e (bodyOf b j) → List·Memᴰ e (drop (headerLength b) b)
 behind-header b e j m =
-    let d : headerLength b + (placeOf b j - headerLength b) ≡ placeOf b j = omega (arith, place-from b j) in
-    let s : drop (placeOf b j - headerLength b) (drop (headerLength b) b) ≡ drop (placeOf b j) b = drop-drop (placeOf b j - headerLength b) (headerLength b) b ∙ ap (λ (k : ℕ). drop k b) d in
-    member-drop (placeOf b j - headerLength b) e (drop (headerLength b) b)
+    let x = placeOf b j - headerLength b in
+    let d : headerLength b + x ≡ placeOf b j = omega (arith, place-from b j) in
+    let s : drop x (drop (headerLength b) b) ≡ drop (placeOf b j) b = drop-drop x (headerLength b) b ∙ ap (λ (k : ℕ). drop k b) d in
+    member-drop x e (drop (headerLength b) b)
     (subst (List·Memᴰ e) (sym s) (member-take (bodyLength b j) e (drop (placeOf b j) b) m))
 
 -- so one pass over what stands behind the header decides 4
 pub entries-here : (b : List ℕ) → Laid b → any (λ e. ltb 50 e) (drop (headerLength b) b) ≡ largeEntryTest b
 unfolding placeOf
-entries-here b laid = tests-same _ _ (tests-entryAbove50 (drop (headerLength b) b)) (record { sound = λ t. into (tests-largeEntry b .sound t); complete = λ p. tests-largeEntry b .complete (back p) })
+entries-here b laid = tests-same _ _ (tests-entryAbove50 (drop (headerLength b) b)) (tests-as (tests-largeEntry b) into back)
   where
     into : SomeBelow (tableCount b) (λ j. EntryAbove50 (bodyOf b j)) → EntryAbove50 (drop (headerLength b) b)
     into r = (r .2 .0, behind-header b (r .2 .0) (r .0) (r .2 .1), r .2 .2)
@@ -124,11 +127,39 @@ pub accepted-by : (b : List ℕ) → Accepts (bundleChecks b) → Accepted b
 accepted-by b a =
     record {
       layout = laid-accepts b (accepts-left (layoutChecks b) (entryChecks b) a);
-      small = λ j x h m. by-cases (decLe x 50) (λ l. l) (λ g. absurd (accepts-right (layoutChecks b) (entryChecks b) a _ (List·Memᴰ·head refl) (j, h, (x, m, omega arith))));
+      small = λ j x h m. by-cases (decLe x 50) (λ l. l)
+          (λ g. absurd (accepts-right (layoutChecks b) (entryChecks b) a _ (List·Memᴰ·head refl) (j, h, (x, m, omega arith))));
     }
 
 pub accepted-bundle : (b : List ℕ) → refusal (bundleChecks b) ≡ 0 → Accepted b
 accepted-bundle b e = accepted-by b (accepted (bundleChecks b) e)
+
+-- ---- and this is enough: a bundle of which it holds is accepted
+
+table-enough : (b : List ℕ) (j : ℕ) → TableLaid b j → refusal (tableChecksOf b j) ≡ 0
+table-enough b j t = sym (table-passes b j (rowCount b j) (offsetOf b j) refl refl (t .limited) (t .begins) (t .within))
+
+tables-enough : (b : List ℕ) (m j : ℕ) → ((i : ℕ) → j ≤ i → i < j + m → TableLaid b i) → refusal (tablesChecks b j m) ≡ 0
+unfolding tablesChecks
+tables-enough b zero j f = refusal-none
+tables-enough b (suc m) j f =
+    let rest : 0 ≡ refusal (tablesChecks b (suc j) m) = sym (tables-enough b m (suc j) (λ i g h. f i (omega arith) (omega arith))) in
+    sym (passes-first (tableChecksOf b j) (tablesChecks b (suc j) m) 0 (table-enough b j (f j (omega arith) (omega arith))) rest)
+
+laid-enough : (b : List ℕ) → Laid b → refusal (layoutChecks b) ≡ 0
+laid-enough b l =
+    let f = l .frame in
+    let frame : 0 ≡ refusal (frameChecks b) = frame-passes b (has-frame b (f .long) (f .short) (f .someTables) (f .fewTables) (f .header)) (f .someVariables) (f .fewVariables) in
+    let tables : refusal (tablesChecks b 0 (tableCount b)) ≡ 0 = tables-enough b (tableCount b) 0 (λ i g h. l .tables i (omega arith)) in
+    let none : placeOf b (tableCount b) < length b → ⊥ = λ h. omega (arith, l .ends) in
+    let remain : 0 ≡ refusal (remainChecks b) = sym (refusal-passes _ _ none ∙ refusal-none) in
+    sym (passes-first (frameChecks b) (tablesChecks b 0 (tableCount b) ++ remainChecks b) 0 (sym frame)
+    (passes-first (tablesChecks b 0 (tableCount b)) (remainChecks b) 0 tables remain))
+
+pub bundle-accepted : (b : List ℕ) → Accepted b → refusal (bundleChecks b) ≡ 0
+bundle-accepted b a =
+    let none : LargeEntry b → ⊥ = λ r. omega (arith, a .small (r .0) (r .2 .0) (r .1) (r .2 .1), r .2 .2) in
+    sym (passes-first (layoutChecks b) (entryChecks b) 0 (laid-enough b (a .layout)) (sym (refusal-passes _ _ none ∙ refusal-none)))
 
 -- ---- the tables of an accepted bundle
 
@@ -145,7 +176,9 @@ module _ (b : List ℕ) (a : Laid b) (j : ℕ) (h : j < tableCount b) where
 
   -- and the rows end to end are the body
   pub flat-table : flat (tableOf b j) ≡ bodyOf b j
-  flat-table = flat-rows (variablesOf b) (bodyOf b j) (length-body ∙ ap (λ (m : ℕ). m * variablesOf b) (sym length-table ∙ length-rows (variablesOf b) (bodyOf b j)))
+  flat-table =
+      let e : rowCount b j ≡ length (bodyOf b j) / variablesOf b = sym length-table ∙ length-rows (variablesOf b) (bodyOf b j) in
+      flat-rows (variablesOf b) (bodyOf b j) (length-body ∙ ap (λ (m : ℕ). m * variablesOf b) e)
 
 -- each table of an accepted bundle passes the checks of a table
 pub table-passes-checks : (b : List ℕ) → Accepted b → (j : ℕ) → j < tableCount b → refusal (tableChecks (variablesOf b) (bodyOf b j)) ≡ 0

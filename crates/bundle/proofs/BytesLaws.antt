@@ -16,7 +16,8 @@ use lib.ListN.{length, getD, take, drop, take-append-drop, drop-of-length-le}
 use lib.Seq.{drop-drop, drop-cons}
 use Rattle.terms.specs.Monomials.{Table}
 use Rattle.terms.specs.Rows.{flat}
-use Rattle.bundle.specs.Format.{byteAt, number16, variablesOf, tableCount, headerLength, rowCount, offsetOf, bodyLength, placeOf, bodyOf, tableOf, tablesFrom, tablesOf, Bytes, low, high, entriesOf, bodiesOf, bundleOf}
+use Rattle.bundle.specs.Format.{byteAt, number16, variablesOf, tableCount, rowCount, offsetOf, placeOf, tableOf, tablesFrom, tablesOf}
+use Rattle.bundle.specs.Format.{Bytes, low, high, entriesOf, bodiesOf, bundleOf}
 use Rattle.bundle.proofs.AcceptedLaws.{Laid, Accepted, from-place, length-table, flat-table}
 
 -- ---- the two bytes of a number
@@ -72,9 +73,10 @@ module _ (b : List ℕ) (bytes : Bytes b) (a : Laid b) where
         let i1 : x + 1 ≡ suc x = omega arith in
         let i2 : 4 + 4 * j ≡ suc (suc x) = omega arith in
         let i3 : 4 + 4 * j + 1 ≡ suc (suc (suc x)) = omega arith in
-        rw (q, drop-cons b x 0 l0, drop-cons b (suc x) 0 l1, drop-cons b (suc (suc x)) 0 l2, drop-cons b (suc (suc (suc x))) 0 l3, z, rows-number, place-number, i3, i2, i1)
+        let y = suc (suc x) in
+        rw (q, drop-cons b x 0 l0, drop-cons b (suc x) 0 l1, drop-cons b y 0 l2, drop-cons b (suc y) 0 l3, z, rows-number, place-number, i3, i2, i1)
         (four (low-number (byteAt b x) (byteAt b (suc x)) (bytes x)) (high-number (byteAt b x) (byteAt b (suc x)) (bytes x))
-        (low-number (byteAt b (suc (suc x))) (byteAt b (suc (suc (suc x)))) (bytes (suc (suc x)))) (high-number (byteAt b (suc (suc x))) (byteAt b (suc (suc (suc x)))) (bytes (suc (suc x)))))
+        (low-number (byteAt b y) (byteAt b (suc y)) (bytes y)) (high-number (byteAt b y) (byteAt b (suc y)) (bytes y)))
       where
         four : {p q r s p′ q′ r′ s′ : ℕ} {l : List ℕ} → p′ ≡ p → q′ ≡ q → r′ ≡ r → s′ ≡ s → p ∷ q ∷ r ∷ s ∷ l ≡ p′ ∷ q′ ∷ r′ ∷ s′ ∷ l
         four e f g h = cc
@@ -106,7 +108,8 @@ bundle-again b bytes a =
     let e : entriesOf (variablesOf b) (2 + 4 * k) (tablesOf b) ≡ take (4 * k) (drop 2 b) = read-entries b bytes a k 0 (omega arith) in
     let d : bodiesOf (tablesOf b) ≡ drop (2 + 4 * k) b = read-bodies b bytes a k 0 (omega arith) in
     let s : take (4 * k) (drop 2 b) ++ drop (2 + 4 * k) b ≡ drop 2 b = rw (← drop-drop (4 * k) 2 b) (take-append-drop (4 * k) (drop 2 b)) in
-    let o : b ≡ byteAt b 0 ∷ byteAt b 1 ∷ drop 2 b = drop-cons b 0 0 (omega (arith, a .frame .long)) ∙ ap (λ (t : List ℕ). byteAt b 0 ∷ t) (drop-cons b 1 0 (omega (arith, a .frame .long))) in
+    let long = a .frame .long in
+    let o : b ≡ byteAt b 0 ∷ byteAt b 1 ∷ drop 2 b = drop-cons b 0 0 (omega arith) ∙ ap (λ (t : List ℕ). byteAt b 0 ∷ t) (drop-cons b 1 0 (omega arith)) in
     rw (l, e, d, s) (sym o)
 
 pub same-bundle : (b c : List ℕ) → Bytes b → Bytes c → Accepted b → Accepted c → variablesOf b ≡ variablesOf c → tablesOf b ≡ tablesOf c → b ≡ c

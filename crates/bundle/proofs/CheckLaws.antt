@@ -121,8 +121,8 @@ module _ (b : List ℕ) (j k : ℕ) (rest : List Check) where
   pub past-last : k ≤ j → refusal (tablesChecks b j (k - j) ++ rest) ≡ refusal rest
   past-last h = ap (λ (l : List Check). refusal (l ++ rest)) (tables-end b j k h)
 
--- a body of at most 4,096 rows is short
-pub body-bound : (rows n : ℕ) → rows ≤ 4096 → n ≤ 6 → rows * n ≤ 24576
+-- a body's length fits
+pub body-bound : (rows n : ℕ) → rows ≤ 65535 → n ≤ 6 → rows * n ≤ 393210
 body-bound rows n h g = mul-le-mul h g
 
 -- the numbers read are the table's
@@ -187,7 +187,8 @@ module _ (b : List ℕ) (k : ℕ) (count : k ≡ tableCount b) where
   unfolding placeOf
   passed-first f = record { below = omega arith; here = rw count; within = omega (arith, f .header); same = let e : k - 0 ≡ k = omega arith in rw e }
 
-  pub passed-next : (place j rows n : ℕ) → Passed b k place j → j < k → 0 ≡ refusal (tableChecksOf b j) → rows ≡ number16 b (2 + 4 * j) → n ≡ variablesOf b → Passed b k (place + rows * n) (j + 1)
+  pub passed-next : (place j rows n : ℕ) → Passed b k place j → j < k → 0 ≡ refusal (tableChecksOf b j)
+      → rows ≡ number16 b (2 + 4 * j) → n ≡ variablesOf b → Passed b k (place + rows * n) (j + 1)
   unfolding placeOf rowCount
   passed-next place j rows n p h e r v =
       let t = table-laid b j (sym e) in

@@ -3,3 +3,4 @@ pub mod CheckLaws
 pub mod AcceptedLaws
 pub mod BytesLaws
 pub mod ReadLaws
+pub mod Examples

@@ -74,7 +74,8 @@ module _ (b : List ℕ) (j : ℕ) where
   locate-none e h = refused-zeros 5 (passes-first (bundleChecks b) (numberChecks b j) 5 e (sym (refusal-holds _ _ h))) (λ x. omega arith)
 
   -- table j is opened: the header's offset is its place
-  pub locate-opens : (n rows place : ℕ) → refusal (bundleChecks b) ≡ 0 → j < tableCount b → n ≡ variablesOf b → rows ≡ rowCount b j → place ≡ offsetOf b j → LocatePromise b j (record { refusal = 0; n = n; rows = rows; place = place })
+  pub locate-opens : (n rows place : ℕ) → refusal (bundleChecks b) ≡ 0 → j < tableCount b → n ≡ variablesOf b → rows ≡ rowCount b j → place ≡ offsetOf b j
+      → LocatePromise b j (record { refusal = 0; n = n; rows = rows; place = place })
   locate-opens n rows place e h v r o =
       let f : tableCount b ≤ j → ⊥ = λ x. omega arith in
       let p : 0 ≡ refusal (openChecks b j) = passes-first (bundleChecks b) (numberChecks b j) 0 e (sym (refusal-passes _ _ f ∙ refusal-none)) in
@@ -89,9 +90,10 @@ module _ (b : List ℕ) (j : ℕ) where
 -- where table j is opened the bundle is accepted, and has a table j
 pub open-accepted : (b : List ℕ) (j : ℕ) → refusal (openChecks b j) ≡ 0 → Accepted b × (j < tableCount b)
 open-accepted b j e =
-    let a = accepted (openChecks b j) e in
-    (accepted-by b (accepts-left (bundleChecks b) (numberChecks b j) a),
-    by-cases (decLe (tableCount b) j) (λ h. absurd (accepts-right (bundleChecks b) (numberChecks b j) a _ (List·Memᴰ·head refl) h)) (λ h. omega arith))
+    let a = accepted (openChecks b j) e in (
+      accepted-by b (accepts-left (bundleChecks b) (numberChecks b j) a),
+      by-cases (decLe (tableCount b) j) (λ h. absurd (accepts-right (bundleChecks b) (numberChecks b j) a _ (List·Memᴰ·head refl) h)) (λ h. omega arith),
+    )
 
 -- what is found lies within the bundle: the body of a table, or nothing at its start
 module _ (b : List ℕ) (j : ℕ) (f : Located) (p : LocatePromise b j f) where

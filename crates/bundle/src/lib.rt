@@ -1,11 +1,11 @@
 // The bundle reader: which table a number names, where its bytes stand, and which check refuses.
 ghost use mathlib.Core.Path.{_≡_};
 ghost use mathlib.Core.List.{_++_};
-ghost use Prim.Native.Nat.{ℕ, suc, _+_, _*_, _≤_, _<_};
+ghost use Prim.Native.Nat.{_+_, _*_, _≤_, _<_};
 ghost use lib.ListN.{length};
 ghost use Rattle.terms.specs.Refusals.{refusal};
-ghost use Rattle.bundle.specs.Format.{byteAt, number16, variablesOf, tableCount, headerLength, rowCount, placeOf};
-ghost use Rattle.bundle.specs.Checks.{frameChecks, tableChecksOf, tablesChecks, remainChecks, layoutChecks, bundleChecks, openChecks};
+ghost use Rattle.bundle.specs.Format.{byteAt, number16, variablesOf, tableCount, placeOf};
+ghost use Rattle.bundle.specs.Checks.{frameChecks, tableChecksOf, tablesChecks, remainChecks, layoutChecks, bundleChecks};
 ghost use Rattle.bundle.specs.Operation.{LocatePromise, FoundWithin, PartOf, OpenPromise};
 
 // The most bytes of a bundle, and the most tables.
@@ -50,17 +50,18 @@ fn frame_refusal(bundle: &[u8]) -> u8
     if MOST_BYTES < size {
         return 9;
     }
+    let n = byte_at(bundle, 0);
     let tables = byte_at(bundle, 1);
+    let header = 2 + 4 * tables;
     if tables == 0 {
         return 9;
     }
     if MOST_TABLES < tables {
         return 9;
     }
-    if size < 2 + 4 * tables {
+    if size < header {
         return 9;
     }
-    let n = byte_at(bundle, 0);
     if n == 0 {
         return 1;
     }
@@ -76,14 +77,16 @@ fn one_table_refusal(bundle: &[u8], n: usize, j: usize, place: usize) -> u8
     ensures { λ r. ⌜ r ≡ refusal (tableChecksOf (now (bundle .entry)) j) ⌝ }
 {
     let rows = read16(bundle, 2 + 4 * j);
+    let offset = read16(bundle, 4 + 4 * j);
+    let end = place + rows * n;
+    let size = bundle.len();
     if terms::MOST_ROWS < rows {
         return 3;
     }
-    let offset = read16(bundle, 4 + 4 * j);
     if offset != place {
         return 10;
     }
-    if bundle.len() < place + rows * n {
+    if size < end {
         return 11;
     }
     0
@@ -104,10 +107,7 @@ fn tables_refusal(bundle: &[u8], n: usize, tables: usize) -> u8
         place += read16(bundle, 2 + 4 * j) * n;
         j += 1;
     }
-    if place < bundle.len() {
-        return 11;
-    }
-    0
+    if place < bundle.len() { 11 } else { 0 }
 }
 
 // The checks of the bundle's layout: 9, 1, those of each table, bytes that remain.
@@ -139,6 +139,17 @@ pub fn bundle_refusal(bundle: &[u8]) -> u8
     0
 }
 
+// The number of tables that a bundle says it has.
+pub fn table_count(bundle: &[u8]) -> usize
+    ensures { λ r. ⌜ (r ≡ tableCount (now (bundle .entry))) × (r < 256) ⌝ }
+{
+    if bundle.len() < 2 {
+        0
+    } else {
+        byte_at(bundle, 1)
+    }
+}
+
 // The refusal, n, the row count and the place of table j.
 pub fn locate(bundle: &[u8], j: usize) -> Located
     ensures { λ r. ⌜ LocatePromise (now (bundle .entry)) j r ⌝ }
@@ -161,12 +172,12 @@ pub fn locate(bundle: &[u8], j: usize) -> Located
         };
     }
     let n = byte_at(bundle, 0);
-    let rows = read16(bundle, 2 + 4 * j);
+    let count = read16(bundle, 2 + 4 * j);
     let place = read16(bundle, 4 + 4 * j);
     Located {
         refusal: 0,
         n,
-        rows,
+        rows: count,
         place,
     }
 }
@@ -181,7 +192,7 @@ pub struct OpenedTable<'a> {
 }
 
 // The part of a bundle that a found table is.
-fn part<'a>(bundle: &'a [u8], found: Located) -> &'a [u8]
+pub fn part<'a>(bundle: &'a [u8], found: Located) -> &'a [u8]
     requires { ⌜ FoundWithin (now bundle) found ⌝ }
     ensures { λ r. ⌜ PartOf (bundle .entry) (found .place) (found .rows * found .n) r ⌝ }
 {
@@ -197,5 +208,10 @@ pub fn open_table<'a>(bundle: &'a [u8], j: usize) -> OpenedTable<'a>
 {
     let found = locate(bundle, j);
     let bytes = part(bundle, found);
-    OpenedTable { bytes, n: found.n, rows: found.rows, refusal: found.refusal }
+    OpenedTable {
+        bytes,
+        n: found.n,
+        rows: found.rows,
+        refusal: found.refusal,
+    }
 }

@@ -7,4 +7,9 @@ pub mod LimitLaws
 pub mod WalkLaws
 pub mod BufferLaws
 pub mod OperationLaws
+pub mod CodeBytes
+pub mod CodeRows
+pub mod CodeLevel
+pub mod CodeStep
+pub mod CodeOperation
 pub mod Examples

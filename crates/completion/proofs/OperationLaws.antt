@@ -12,7 +12,7 @@ use mathlib.Core.Bool.{Bool}
 use mathlib.Core.List.{List, [], _∷_, _++_, List·Memᴰ, List·Memᴰ·head, Memᴰ·append-right}
 use mathlib.Core.Logic.{by-cases}
 use Prim.Native.Nat.{ℕ, zero, suc, _*_, _/_, _≤_, _<_}
-use native.Mathlib.Nat.{not-suc-le-zero, le-trans, min-le-right, mul-le-mul-right, div-mul-le-self}
+use native.Mathlib.Nat.{not-suc-le-zero, le-trans, min-le-left, min-le-right, mul-le-mul-right, div-mul-le-self}
 use native.Mathlib.Decide.{decLe, decLt}
 use native.Mathlib.Omega.{arith}
 use lib.ListN.{length, drop, length-append, length-drop}
@@ -92,6 +92,11 @@ unfolding roomFor
 room-fits n size k h =
     let l : k * n ≤ size / n * n = mul-le-mul-right n (le-trans h (min-le-right 4096 (size / n))) in
     le-trans l (div-mul-le-self size n)
+
+-- there is never room for more than 4,096 rows
+pub room-limited : (n size : ℕ) → roomFor n size ≤ 4096
+unfolding roomFor
+room-limited n size = min-le-left 4096 (size / n)
 
 -- a table that is accepted has room
 pub accepted-room : (n : ℕ) (table : List ℕ) (size : ℕ) → refusal (completeChecks n table size) ≡ 0 → length (completedOf n table) ≤ roomFor n size

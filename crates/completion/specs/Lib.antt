@@ -3,3 +3,4 @@ pub mod Blocks
 pub mod Completed
 pub mod Slices
 pub mod Operation
+pub mod Code

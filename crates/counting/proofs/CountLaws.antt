@@ -8,33 +8,35 @@
 --   count-formula    with the count they make C(n + s, n)
 --   count-zeros      with a row of zeros every count is 0
 use mathlib.Core.Path.{_≡_, refl, sym, ap, ap₂, _∙_, subst}
-use mathlib.Core.Bool.{Bool, true, false, not, _&&_}
-use mathlib.Core.List.{List, [], _∷_, _++_, map, List·Memᴰ, List·Memᴰ·cases-cons, List·Memᴰ·not-nil, List·Memᴰ·append-cases, List·Memᴰ·eq-of-singleton, Memᴰ·of-map}
-use mathlib.Core.Logic.{_⊎_, inl, inr, ⊎-elim, by-cases}
+use mathlib.Core.Bool.{Bool, true, false, not}
+use mathlib.Core.List.{List, [], _∷_, map, List·Memᴰ, List·Memᴰ·append-cases, List·Memᴰ·eq-of-singleton, Memᴰ·of-map}
+use mathlib.Core.Logic.{⊎-elim, by-cases}
 use Prim.Native.Nat.{ℕ, zero, suc, _+_, _-_, _≤_, _<_}
-use native.Mathlib.Nat.{not-suc-le-zero, le-of-suc-le-suc, suc-inj, add-comm}
+use native.Mathlib.Nat.{not-suc-le-zero, le-of-suc-le-suc, add-comm}
 use native.Mathlib.Decide.{decLt}
 use native.Mathlib.Omega.{arith}
-use lib.Dec.{T, eqb}
-use lib.ListN.{length, getD}
-use lib.Seq.{ext-getD}
+use lib.Dec.{T}
+use lib.ListN.{length}
 use Rattle.binomial.specs.Choose.{choose}
 use Rattle.binomial.proofs.ChooseLaws.{choose-none}
-use Rattle.terms.specs.Tests.{Tests, pick, any, keep, keep-in, tests-as, tests-and, tests-eq, tests-same, tests-any}
+use Rattle.terms.specs.Tests.{Tests, any, keep, tests-as, tests-and, tests-eq, tests-same, tests-any}
 use Rattle.terms.specs.Monomials.{Monomial, Table, _!_, _∈_, rowAt, OfSize, degree}
-use Rattle.terms.specs.Ideal.{Divides, Inside, insideTest}
+use Rattle.terms.specs.Ideal.{Inside, insideTest}
 use Rattle.terms.proofs.MonomialLaws.{within, positive, same-all}
 use Rattle.terms.proofs.IdealLaws.{tests-inside, inside-zeros}
 use Rattle.terms.proofs.RowsLaws.{member-at}
-use Rattle.division.proofs.Facade.{Marking, Cone, DivisorAt, Disjoint, Covers, marksCount}
+use Rattle.division.proofs.Facade.{Marking, Cone, Disjoint, Covers, marksCount}
 use Rattle.counting.specs.Counts.{sum, raised, extended, monomialsUpTo, sameTest, occurrences, countAt, share}
-use Rattle.counting.proofs.SumLaws.{bit, bit-false, bit-not, sum-append, sum-add, sum-zero, sum-same, sum-map, sum-swap, length-keep, keep-or-not, one-at-most}
-use Rattle.counting.proofs.ShareLaws.{size, share-size, share-inside, size-pascal, size-first, coneTest, markAt, weight, tests-cone, cone-count, listed, length-listed, listed-at, weight-listed}
+use Rattle.counting.proofs.SumLaws.{bit, bit-false, sum-append, sum-zero, sum-same, sum-map, sum-swap, length-keep, keep-or-not, one-at-most}
+use Rattle.counting.proofs.ShareLaws.{size, share-size, share-inside, size-pascal, size-first, coneTest, markAt}
+use Rattle.counting.proofs.ShareLaws.{weight, tests-cone, cone-count, listed, length-listed, listed-at, weight-listed}
 
 -- ---- what the list of monomials holds
 
 -- what `extended` makes of monomials with a property P at each degree
-extended-all : (f : ℕ → List Monomial) (P Q : ℕ → Monomial → Type 0) → ((s : ℕ) (w : Monomial) → P s w → Q s (0 ∷ w)) → ((s : ℕ) (w : Monomial) → Q s w → Q (suc s) (raised w)) → ((s : ℕ) (q : Monomial) → List·Memᴰ q (f s) → P s q) → (s : ℕ) (q : Monomial) → List·Memᴰ q (extended f s) → Q s q
+extended-all : (f : ℕ → List Monomial) (P Q : ℕ → Monomial → Type 0) → ((s : ℕ) (w : Monomial) → P s w → Q s (0 ∷ w))
+    → ((s : ℕ) (w : Monomial) → Q s w → Q (suc s) (raised w)) → ((s : ℕ) (q : Monomial) → List·Memᴰ q (f s) → P s q) → (s : ℕ) (q : Monomial)
+    → List·Memᴰ q (extended f s) → Q s q
 unfolding extended
 extended-all f P Q put up h zero q m =
     let r = Memᴰ·of-map (λ (w : Monomial). 0 ∷ w) (f zero) m in
@@ -110,8 +112,10 @@ pub upTo-once : (n s : ℕ) (u : Monomial) → length u ≡ n → degree u ≤ s
 unfolding occurrences
 upTo-once n s u e h =
     length-keep (sameTest u) (monomialsUpTo n s)
-    ∙ sum-same _ _ (monomialsUpTo n s) (λ q m. ap bit (tests-same (sameTest u q) (coneTest (unmarked u) u q) (tests-sameTest u q) (tests-unmarked u q (e ∙ sym (upTo-only n s q m .0)))))
-    ∙ subst (λ (k : ℕ). sum (λ q. bit (coneTest (unmarked u) u q)) (monomialsUpTo k s) ≡ size s (degree u) (weight (unmarked u))) e (cone-count (unmarked u) u (length-unmarked u) s)
+    ∙ sum-same _ _ (monomialsUpTo n s) (λ q m.
+    ap bit (tests-same (sameTest u q) (coneTest (unmarked u) u q) (tests-sameTest u q) (tests-unmarked u q (e ∙ sym (upTo-only n s q m .0)))))
+    ∙ subst (λ (k : ℕ). sum (λ q. bit (coneTest (unmarked u) u q)) (monomialsUpTo k s) ≡ size s (degree u) (weight (unmarked u))) e
+    (cone-count (unmarked u) u (length-unmarked u) s)
     ∙ ap (size s (degree u)) (weight-unmarked u)
     ∙ sym (share-size s (degree u) 0)
     ∙ share-inside s (degree u) 0 h
@@ -145,7 +149,8 @@ upTo-length n s = length-ones (monomialsUpTo n s) ∙ upTo-ones n s ∙ ap (λ (
 -- M are the marks of a table, `marked u i` the test of the mark of row u at variable i. A monomial of the ideal is in the cone of one row
 -- number and no more, any other in none. So the monomials of the ideal up to s, counted one by one, are those of all cones, and those of
 -- one cone are its share.
-module _ (M : Marking) (marked : Monomial → ℕ → Bool) (n : ℕ) (G : Table) (z : OfSize n G) (agrees : (u : Monomial) → u ∈ G → (i : ℕ) → 0 < i → i ≤ n → Tests (marked u i) (M G u i)) where
+module _ (M : Marking) (marked : Monomial → ℕ → Bool) (n : ℕ) (G : Table) (z : OfSize n G)
+    (agrees : (u : Monomial) → u ∈ G → (i : ℕ) → 0 < i → i ≤ n → Tests (marked u i) (M G u i)) where
   abbrev pub shareOf : ℕ → Monomial → ℕ
   shareOf s u = share s (degree u) (marksCount n (marked u))
 
@@ -161,7 +166,11 @@ module _ (M : Marking) (marked : Monomial → ℕ → Bool) (n : ℕ) (G : Table
         divides = λ i. p i .0;
         only = λ i h. agrees u m i (at i h .0) (at i h .1) .sound (subst T (listed-at n (marked u) i (at i h .0) (at i h .1)) (p i .1 h));
       })
-      (λ (d : Cone (M G u) u q) i. (d .divides i, λ h. subst T (sym (listed-at n (marked u) i (at i h .0) (at i h .1))) (agrees u m i (at i h .0) (at i h .1) .complete (d .only i h))))
+      (λ (d : Cone (M G u) u q) i. (
+        d .divides i,
+        λ h.
+            subst T (sym (listed-at n (marked u) i (at i h .0) (at i h .1))) (agrees u m i (at i h .0) (at i h .1) .complete (d .only i h)),
+      ))
 
   module _ (disjoint : Disjoint M G) (covers : Covers M n G) (s : ℕ) where
     cones-at : (q : Monomial) → length q ≡ n → bit (insideTest G q) ≡ sum (λ u. bit (coneOf q u)) G
@@ -206,4 +215,5 @@ not-both false t s = t
 
 pub count-zeros : (n : ℕ) (G : Table) (u : Monomial) → u ∈ G → ((i : ℕ) → u ! i ≡ 0) → (s : ℕ) → countAt n G s ≡ 0
 unfolding countAt
-count-zeros n G u m h s = nothing-kept (λ q. not (insideTest G q)) (monomialsUpTo n s) (λ q t. not-both (insideTest G q) (tests-inside G q .complete (inside-zeros G u q m h)) t)
+count-zeros n G u m h s = nothing-kept (λ q. not (insideTest G q)) (monomialsUpTo n s)
+    (λ q t. not-both (insideTest G q) (tests-inside G q .complete (inside-zeros G u q m h)) t)

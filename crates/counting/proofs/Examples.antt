@@ -5,16 +5,16 @@
 --   example-C        the row 3, n = 1: the count at 2 is 3, the polynomial is 3 at every s
 --   example-D        the rows 0 2, 1 2, 2 1: the count at 3 is 6; the polynomial at 0 is 3 while the count is 1; the steady degree is 3
 use mathlib.Core.Path.{_≡_, refl, sym, ap, ap₂, _∙_}
-use mathlib.Core.List.{List, [], _∷_, List·Memᴰ·head}
+use mathlib.Core.List.{[], _∷_, List·Memᴰ·head}
 use Prim.Native.Nat.{ℕ, zero, suc, _+_, _-_}
 use native.Mathlib.Omega.{arith}
-use lib.IntN.{ℤ, pos, negsuc, negℤ, _+ℤ_, _-ℤ_, +ℤ-idr, +ℤ-negℤ-cancel, pos-+ℤ-pos, subℕ}
+use lib.IntN.{ℤ, pos, _+ℤ_, _-ℤ_, +ℤ-idr, +ℤ-negℤ-cancel, pos-+ℤ-pos}
 use Rattle.binomial.specs.Choose.{choose}
 use Rattle.binomial.proofs.ChooseLaws.{choose-one}
-use Rattle.terms.specs.Monomials.{Monomial, Table, _!_, degree}
+use Rattle.terms.specs.Monomials.{Table, _!_, degree}
 use Rattle.terms.specs.Ideal.{insideTest, dividesTest}
 use Rattle.division.proofs.Facade.{multiplicativeTest, marksCount}
-use Rattle.counting.specs.Counts.{sumℤ, raised, extended, monomialsUpTo, countAt, share, marksIn, oddTest, chooseℤ, signedShare, polynomialAt, steadyOf}
+use Rattle.counting.specs.Counts.{sumℤ, raised, extended, monomialsUpTo, countAt, marksIn, oddTest, chooseℤ, signedShare, polynomialAt, steadyOf}
 use Rattle.counting.proofs.CountLaws.{count-zeros}
 use Rattle.counting.proofs.PolynomialLaws.{subℕ-pos}
 
@@ -64,5 +64,5 @@ example-C-polynomial (suc (suc k)) =
     ∙ +ℤ-negℤ-cancel (pos 3) (pos k)
 
 pub example-D : (countAt 2 rowsD 3 ≡ 6) × (countAt 2 rowsD 0 ≡ 1) × (polynomialAt 2 rowsD 0 ≡ pos 3) × (steadyOf rowsD ≡ 3)
-unfolding countAt monomialsUpTo extended raised insideTest dividesTest polynomialAt sumℤ signedShare chooseℤ oddTest choose marksIn marksCount multiplicativeTest degree steadyOf
+unfolding countAt monomialsUpTo extended raised insideTest dividesTest polynomialAt sumℤ signedShare chooseℤ oddTest choose marksIn steadyOf
 example-D = (refl, refl, refl, refl)

@@ -4,9 +4,7 @@
 --   janet-shares     the sum of the shares is the number of monomials of the ideal up to s
 --   janet-count      rule 7: with the count they make C(n + s, n)
 use mathlib.Core.Path.{_≡_}
-use mathlib.Core.Bool.{Bool}
 use Prim.Native.Nat.{ℕ, _+_, _≤_}
-use native.Mathlib.Omega.{arith}
 use lib.ListN.{length}
 use Rattle.binomial.specs.Choose.{choose}
 use Rattle.terms.specs.Tests.{Tests, keep}

@@ -5,4 +5,5 @@ pub mod CountLaws
 pub mod JanetCount
 pub mod PolynomialLaws
 pub mod PassLaws
+pub mod OperationLaws
 pub mod Examples

@@ -1,54 +1,53 @@
 -- What the passes over the rows need, over plain lists and numbers.
 --
---   degree-padded, degree-small   the degree of a padded row; no row of an accepted table has a degree above 300
+--   entry-small, degree-small   no entry of an accepted table is above 50, no degree of a row above 300
+--   size-near, size-none, size-far, share-near   the size of a share, by its cases
+--   known-none, known-set, known-at   the sizes that were asked before
 --   share-small      no share exceeds the largest binomial
 --   shares-next, shares-done, shares-marked   the sum of shares from a row on, at the end, and with Janet's marks
 --   signed-next, signed-done, signed-marked   the same with signs
 --   splits-..        what a share with a sign is, in each of its cases
 --   splits-add       sums of differences
 --   polynomial-split the polynomial as one difference
+--   marked-front     a buffer whose front holds the marks is marked
 --   summable         a checked and marked table can be summed
 --   count-sum, polynomial-sum   what the sums over a checked and marked table are
 --   small-fits, abs-difference  when a difference fits an i64
 --   steady-next, steady-done   the largest degree from a row on
-use mathlib.Core.Path.{_≡_, refl, sym, ap, ap₂, _∙_, subst}
-use mathlib.Core.Bool.{Bool, true, false, not}
-use mathlib.Core.List.{List, [], _∷_, _++_, map, List·Memᴰ}
+use mathlib.Core.Path.{_≡_, refl, sym, ap, ap₂, _∙_}
+use mathlib.Core.Bool.{true, false, not}
+use mathlib.Core.List.{List, [], _∷_, _++_}
 use mathlib.Core.Logic.{_⊎_, inl, inr, ⊎-elim, by-cases}
-use Prim.Native.Nat.{ℕ, zero, suc, _+_, _*_, _-_, _%_, _^_, _≤_, _<_, max}
+use Prim.Native.Nat.{ℕ, zero, suc, _+_, _*_, _-_, _%_, _≤_, _<_, max}
 use native.Mathlib.Nat.{not-suc-le-zero, le-of-suc-le-suc}
 use native.Mathlib.Numerals.{add-one}
-use native.Mathlib.Decide.{decLe, decLt}
+use native.Mathlib.Decide.{decLe, decLt, ℕ-discrete}
 use native.Mathlib.Omega.{arith}
-use borrow.Author.Tests.{lt-ltb}
+use borrow.Author.Tests.{lt-ltb, le-leb, lt-leb}
 use lib.Count.{ones, ones-le}
-use lib.Dec.{T, ltb}
 use lib.Pow.{pow-mono}
-use lib.ListN.{length, getD, drop, length-append, drop-of-length-le, List·getD-append}
-use lib.Seq.{drop-cons}
+use lib.ListN.{length, getD, drop, set, replicate, length-append}
+use lib.ListN.{length-replicate, length-set, getD-replicate, drop-of-length-le, List·getD-append, List·getD-eq-default}
+use lib.Seq.{drop-cons, getD-set-same, getD-set-other}
+use lib.IntN.{ℤ, pos, negsuc, negℤ, natAbs, subℕ, _+ℤ_, _-ℤ_, +ℤ-idl, +ℤ-idr, +ℤ-assoc, +ℤ-comm, negℤ-+ℤ, negℤ-negℤ, pos-+ℤ-pos}
 use mir.Syntax.{w64}
 use mir.Val.{SFits}
-use lib.IntN.{ℤ, pos, negsuc, negℤ, natAbs, subℕ, _+ℤ_, _-ℤ_, +ℤ-idl, +ℤ-idr, +ℤ-assoc, +ℤ-comm, negℤ-+ℤ, negℤ-negℤ, pos-+ℤ-pos}
 use Rattle.binomial.specs.Choose.{choose}
-use Rattle.binomial.proofs.ChooseLaws.{choose-within}
+use Rattle.binomial.proofs.ChooseLaws.{choose-over, choose-within}
 use Rattle.terms.specs.Tests.{pick}
 use Rattle.terms.specs.Monomials.{Monomial, Table, _!_, rowAt, degree}
-use Rattle.terms.specs.Rows.{rows, padded}
-use Rattle.terms.proofs.MonomialLaws.{beyond, degree-le}
-use Rattle.terms.proofs.RowsLaws.{padded-at, entry-at, row-size, row-within, rows-size, member-at}
+use Rattle.terms.specs.Rows.{rows}
+use Rattle.terms.proofs.MonomialLaws.{beyond}
+use Rattle.terms.proofs.RowsLaws.{entry-at, row-size, row-within, rows-size, member-at}
 use Rattle.terms.proofs.RefusalLaws.{TableAccepted}
 use Rattle.division.proofs.Facade.{multiplicativeTest, marksOf, tableMarks, marks-ones, marksOf-below, length-tableMarks, tableMarks-at}
 use Rattle.counting.specs.Counts.{sum, sumℤ, share, marksIn, oddTest, chooseℤ, signedShare, polynomialAt, steadyOf, countAt}
-use Rattle.counting.specs.Sums.{sharesOf, signedSharesOf, Summable, Splits, Checked, Marked}
+use Rattle.counting.specs.Sums.{sharesOf, signedSharesOf, shareSize, Known, Summable, Splits, Checked, Marked}
 use Rattle.counting.proofs.ShareLaws.{share-inside, share-outside}
 use Rattle.counting.proofs.PolynomialLaws.{subℕ-pos}
 use Rattle.counting.proofs.JanetCount.{CountTable, janetShare, janet-count}
 
 -- ---- degrees
-
-pub degree-padded : (u : Monomial) → degree (padded u) ≡ degree u
-degree-padded u =
-    omega (arith, degree-le (padded u) u (λ i. omega (arith, padded-at u i)), degree-le u (padded u) (λ i. omega (arith, padded-at u i)))
 
 -- no exponent above 50
 degree-limit : (u : Monomial) → ((i : ℕ) → u ! i ≤ 50) → degree u ≤ length u * 50
@@ -61,7 +60,7 @@ degree-limit (a ∷ u) h = omega (arith, h 1, degree-limit u rest)
     rest (suc i) = h (suc (suc i))
 
 module _ (n : ℕ) (t : List ℕ) (a : TableAccepted n t) (k : ℕ) (l : k < length (rows n t)) where
-  entry-small : (i : ℕ) → rowAt (rows n t) k ! i ≤ 50
+  pub entry-small : (i : ℕ) → rowAt (rows n t) k ! i ≤ 50
   entry-small zero = omega arith
   entry-small (suc i) = by-cases (decLt i n)
       (λ h. omega (arith, entry-at n t k i l h, a .small (getD t (k * n + i) 0) (member-at t 0 (k * n + i) (omega (arith, row-within n t k l)))))
@@ -77,12 +76,60 @@ share-small s d m h g = by-cases (decLe d s)
     (λ l. omega (arith, share-inside s d m l, choose-within (s - d + m) m g (omega arith)))
     (λ f. omega (arith, share-outside s d m (omega arith)))
 
+-- ---- the size of a share
+
+pub size-near : (s d m : ℕ) → d ≤ s → shareSize s d m ≡ choose (s - d + m) m
+unfolding shareSize
+size-near s d m h = rw (le-leb d s h)
+
+pub size-none : (s d m : ℕ) → s < d → d ≤ s + m → shareSize s d m ≡ 0
+unfolding shareSize
+size-none s d m h g = rw (lt-leb d s h, le-leb d (s + m) g)
+
+pub size-far : (s d m : ℕ) → s + m < d → shareSize s d m ≡ choose (d - s - 1) m
+unfolding shareSize
+size-far s d m h = let g : s < d = omega arith in rw (lt-leb d s g, lt-leb d (s + m) h)
+
+pub share-near : (s d m : ℕ) → d ≤ s → shareSize s d m ≡ share s d m
+share-near s d m h = size-near s d m h ∙ sym (share-inside s d m h)
+
+-- ---- the sizes that were asked before
+
+pub known-none : (s : ℕ) → Known s (replicate 2107 0)
+known-none s = record { long = length-replicate {A = ℕ} 2107 0; right = λ d m h g. inl (zeros-at (d * 7 + m)) }
+  where
+    zeros-at : (i : ℕ) → _≡_ {A = ℕ} (getD (replicate 2107 0) i 0) 0
+    zeros-at i = by-cases (decLt i 2107)
+        (λ l. getD-replicate 2107 i 0 0 l)
+        (λ g. List·getD-eq-default (replicate 2107 0) 0 {n = i} (rw length-replicate (omega arith)))
+
+-- a share is stored at its own place, and no other share has that place
+pub known-set : (s : ℕ) (known : List ℕ) (d m v : ℕ) → Known s known → m ≤ 6 → d * 7 + m < 2107 → v ≡ shareSize s d m → Known s (set known (d * 7 + m) v)
+known-set s known d m v k few l e = record { long = length-set known (d * 7 + m) v ∙ k .long; right = at }
+  where
+    at : (a b : ℕ) → a ≤ 300 → b ≤ 6 → (getD (set known (d * 7 + m) v) (a * 7 + b) 0 ≡ 0) ⊎ (getD (set known (d * 7 + m) v) (a * 7 + b) 0 ≡ shareSize s a b)
+    at a b h g = by-cases (ℕ-discrete (a * 7 + b) (d * 7 + m))
+        (λ same.
+        let x : a ≡ d = omega arith in
+        let y : b ≡ m = omega arith in
+        inr (ap (λ (i : ℕ). getD (set known (d * 7 + m) v) i 0) same
+        ∙ getD-set-same known (d * 7 + m) v 0 (omega (arith, k .long))
+        ∙ e
+        ∙ sym (ap₂ (shareSize s) x y)))
+        (λ other. let o = getD-set-other known (d * 7 + m) (a * 7 + b) v 0 other in ⊎-elim (λ z. inl (o ∙ z)) (λ z. inr (o ∙ z)) (k .right a b h g))
+
+-- what is found there is the share
+pub known-at : (s : ℕ) (known : List ℕ) (d m : ℕ) → Known s known → d ≤ 300 → m ≤ 6 → (getD known (d * 7 + m) 0 ≡ 0 → ⊥)
+    → getD known (d * 7 + m) 0 ≡ shareSize s d m
+known-at s known d m k h g f = ⊎-elim (λ z. absurd (f z)) (λ z. z) (k .right d m h g)
+
 -- a byte of six bits has at most six marks
 pub marks-few : (b : ℕ) → b < 64 → ones b ≤ 6
 marks-few b h = ones-le 6 b h
 
 module _ (s : ℕ) (G : Table) (marks : List ℕ) (k : ℕ) where
-  pub shares-next : k < length G → k < length marks → sharesOf s (drop k G) (drop k marks) ≡ share s (degree (rowAt G k)) (ones (getD marks k 0)) + sharesOf s (drop (k + 1) G) (drop (k + 1) marks)
+  pub shares-next : k < length G → k < length marks
+      → sharesOf s (drop k G) (drop k marks) ≡ share s (degree (rowAt G k)) (ones (getD marks k 0)) + sharesOf s (drop (k + 1) G) (drop (k + 1) marks)
   unfolding sharesOf
   shares-next h g = rw (add-one, drop-cons G k [], drop-cons marks k 0)
 
@@ -90,7 +137,9 @@ module _ (s : ℕ) (G : Table) (marks : List ℕ) (k : ℕ) where
   unfolding sharesOf
   shares-done h = rw (drop-of-length-le G h)
 
-  pub signed-next : k < length G → k < length marks → signedSharesOf s (drop k G) (drop k marks) ≡ signedShare s (degree (rowAt G k)) (ones (getD marks k 0)) +ℤ signedSharesOf s (drop (k + 1) G) (drop (k + 1) marks)
+  pub signed-next : k < length G → k < length marks
+      → signedSharesOf s (drop k G) (drop k marks)
+      ≡ signedShare s (degree (rowAt G k)) (ones (getD marks k 0)) +ℤ signedSharesOf s (drop (k + 1) G) (drop (k + 1) marks)
   unfolding signedSharesOf
   signed-next h g = rw (add-one, drop-cons G k [], drop-cons marks k 0)
 
@@ -104,37 +153,49 @@ ones-marks : (n : ℕ) (H : Table) (u : Monomial) → ones (marksOf n H u) ≡ m
 unfolding marksOf marksIn
 ones-marks n H u = marks-ones (multiplicativeTest H u) n
 
-shares-marks : (s n : ℕ) (H G : Table) (rest : List ℕ) → sharesOf s G (map (marksOf n H) G ++ rest) ≡ sum (janetShare n H s) G
-unfolding sharesOf sum
-shares-marks s n H [] rest = refl
-shares-marks s n H (u ∷ G) rest = ap₂ (λ (x y : ℕ). share s (degree u) x + y) (ones-marks n H u) (shares-marks s n H G rest)
+-- the bytes are the marks that the rows of G have in H
+abbrev MarksIn : ℕ → Table → Table → List ℕ → Type 0
+MarksIn n H G marks = (r : ℕ) → r < length G → getD marks r 0 ≡ marksOf n H (rowAt G r)
 
-signed-marks : (s n : ℕ) (H G : Table) (rest : List ℕ) → signedSharesOf s G (map (marksOf n H) G ++ rest) ≡ sumℤ (λ u. signedShare s (degree u) (marksIn n H u)) G
+shares-marks : (s n : ℕ) (H G : Table) (marks : List ℕ) → length G ≤ length marks → MarksIn n H G marks → sharesOf s G marks ≡ sum (janetShare n H s) G
+unfolding sharesOf sum
+shares-marks s n H [] marks l h = refl
+shares-marks s n H (u ∷ G) [] l h = absurd (not-suc-le-zero l)
+shares-marks s n H (u ∷ G) (b ∷ marks) l h =
+    ap₂ (λ (x y : ℕ). share s (degree u) x + y) (ap ones (h 0 (omega arith)) ∙ ones-marks n H u)
+    (shares-marks s n H G marks (le-of-suc-le-suc l) (λ r k. h (suc r) (omega arith)))
+
+signed-marks : (s n : ℕ) (H G : Table) (marks : List ℕ) → length G ≤ length marks → MarksIn n H G marks
+    → signedSharesOf s G marks ≡ sumℤ (λ u. signedShare s (degree u) (marksIn n H u)) G
 unfolding signedSharesOf sumℤ
-signed-marks s n H [] rest = refl
-signed-marks s n H (u ∷ G) rest = ap₂ (λ (x : ℕ) (y : ℤ). signedShare s (degree u) x +ℤ y) (ones-marks n H u) (signed-marks s n H G rest)
+signed-marks s n H [] marks l h = refl
+signed-marks s n H (u ∷ G) [] l h = absurd (not-suc-le-zero l)
+signed-marks s n H (u ∷ G) (b ∷ marks) l h =
+    ap₂ (λ (x : ℕ) (y : ℤ). signedShare s (degree u) x +ℤ y) (ap ones (h 0 (omega arith)) ∙ ones-marks n H u)
+    (signed-marks s n H G marks (le-of-suc-le-suc l) (λ r k. h (suc r) (omega arith)))
 
 module _ (n : ℕ) (t marks : List ℕ) (m : Marked n t marks) where
   pub shares-marked : (s : ℕ) → sharesOf s (rows n t) marks ≡ sum (janetShare n (rows n t) s) (rows n t)
-  unfolding tableMarks
-  shares-marked s = ap (sharesOf s (rows n t)) (m .front) ∙ shares-marks s n (rows n t) (rows n t) (drop (length (rows n t)) marks)
+  shares-marked s = shares-marks s n (rows n t) (rows n t) marks (m .long) (m .at)
 
   pub signed-marked : (s : ℕ) → signedSharesOf s (rows n t) marks ≡ sumℤ (λ u. signedShare s (degree u) (marksIn n (rows n t) u)) (rows n t)
-  unfolding tableMarks
-  signed-marked s = ap (signedSharesOf s (rows n t)) (m .front) ∙ signed-marks s n (rows n t) (rows n t) (drop (length (rows n t)) marks)
-
-  marks-long : length (rows n t) ≤ length marks
-  marks-long = omega (arith, simp length-append at (ap length (m .front)), length-tableMarks n (rows n t))
+  signed-marked s = signed-marks s n (rows n t) (rows n t) marks (m .long) (m .at)
 
   mark-small : n ≤ 6 → (k : ℕ) → k < length (rows n t) → getD marks k 0 < 64
-  mark-small h k l =
-      let G = rows n t in
-      let e : getD marks k 0 ≡ getD (tableMarks n G ++ drop (length G) marks) k 0 = ap (λ (x : List ℕ). getD x k 0) (m .front) in
-      let f : getD (tableMarks n G ++ drop (length G) marks) k 0 ≡ getD (tableMarks n G) k 0 = List·getD-append (tableMarks n G) (drop (length G) marks) 0 k (omega (arith, length-tableMarks n G)) in
-      omega (arith, tableMarks-at n G k l, marksOf-below n G (rowAt G k), pow-mono {i = n} {j = 6} h)
+  mark-small h k l = omega (arith, m .at k l, marksOf-below n (rows n t) (rowAt (rows n t) k), pow-mono {i = n} {j = 6} h)
 
   pub summable : (s : ℕ) → Checked n t → s ≤ 300 → Summable n t marks s
-  summable s c h = record { accepted = c .accepted; low = h; marked = marks-long; few = mark-small (c .accepted .few) }
+  summable s c h = record { accepted = c .accepted; low = h; marked = m .long; few = mark-small (c .accepted .few) }
+
+-- a buffer whose front holds the marks
+pub marked-front : (n : ℕ) (t rest marks : List ℕ) → marks ≡ tableMarks n (rows n t) ++ rest → Marked n t marks
+marked-front n t rest marks e = record {
+  long = omega (arith, simp length-append at (ap length e), length-tableMarks n (rows n t));
+  at = λ r l.
+      ap (λ (x : List ℕ). getD x r 0) e
+      ∙ List·getD-append (tableMarks n (rows n t)) rest 0 r (omega (arith, length-tableMarks n (rows n t)))
+      ∙ tableMarks-at n (rows n t) r l;
+}
 
 -- ---- a share with a sign, by its cases
 
@@ -154,33 +215,42 @@ subℕ-neg : (a b : ℕ) → a < b → subℕ a b ≡ negsuc (b - suc a)
 subℕ-neg a b h = rw (lt-ltb a b h)
 
 module _ (s d m : ℕ) (low : s ≤ 300) (few : m ≤ 6) where
-  pub splits-plus : d ≤ s + m → Splits 1 (signedShare s d m) (choose (s + m - d) m) 0
+  -- for d above s the top is below m
+  size-plus : d ≤ s + m → shareSize s d m ≡ choose (s + m - d) m
+  size-plus h = by-cases (decLe d s)
+      (λ l. let e : s - d + m ≡ s + m - d = omega arith in size-near s d m l ∙ ap (λ (x : ℕ). choose x m) e)
+      (λ g. size-none s d m (omega arith) h ∙ sym (choose-over (s + m - d) m (omega arith)))
+
+  pub splits-plus : d ≤ s + m → Splits 1 (signedShare s d m) (shareSize s d m) 0
   unfolding signedShare chooseℤ
   splits-plus h = record {
-    difference = +ℤ-idr (pos (choose (s + m - d) m)) ∙ sym (ap (λ (t : ℤ). chooseℤ t m) (subℕ-pos (s + m) d h));
-    plus-small = omega (arith, choose-within (s + m - d) m few (omega arith));
+    difference = +ℤ-idr (pos (shareSize s d m)) ∙ ap pos (size-plus h) ∙ sym (ap (λ (t : ℤ). chooseℤ t m) (subℕ-pos (s + m) d h));
+    plus-small = omega (arith, size-plus h, choose-within (s + m - d) m few (omega arith));
     minus-small = omega arith;
   }
 
   module _ (small : d ≤ 300) (above : s + m < d) where
-    negative : signedShare s d m ≡ pick (oddTest m) (negℤ (pos (choose (d - s - 1) m))) (pos (choose (d - s - 1) m))
+    negative : signedShare s d m ≡ pick (oddTest m) (negℤ (pos (shareSize s d m))) (pos (shareSize s d m))
     unfolding signedShare chooseℤ
     negative =
         let e : m + (d - suc (s + m)) ≡ d - s - 1 = omega arith in
         ap (λ (t : ℤ). chooseℤ t m) (subℕ-neg (s + m) d above)
-        ∙ ap (λ (x : ℕ). pick (oddTest m) (negℤ (pos (choose x m))) (pos (choose x m))) e
+        ∙ ap (λ (x : ℕ). pick (oddTest m) (negℤ (pos x)) (pos x)) (ap (λ (x : ℕ). choose x m) e ∙ sym (size-far s d m above))
 
-    pub splits-odd : m % 2 ≡ 1 → Splits 1 (signedShare s d m) 0 (choose (d - s - 1) m)
+    size-small : shareSize s d m ≤ 1085371516236
+    size-small = omega (arith, size-far s d m above, choose-within (d - s - 1) m few (omega arith))
+
+    pub splits-odd : m % 2 ≡ 1 → Splits 1 (signedShare s d m) 0 (shareSize s d m)
     splits-odd h = record {
-      difference = +ℤ-idl (negℤ (pos (choose (d - s - 1) m))) ∙ sym (negative ∙ rw (odd-odd m h));
+      difference = +ℤ-idl (negℤ (pos (shareSize s d m))) ∙ sym (negative ∙ rw (odd-odd m h));
       plus-small = omega arith;
-      minus-small = omega (arith, choose-within (d - s - 1) m few (omega arith));
+      minus-small = omega (arith, size-small);
     }
 
-    pub splits-even : (m % 2 ≡ 1 → ⊥) → Splits 1 (signedShare s d m) (choose (d - s - 1) m) 0
+    pub splits-even : (m % 2 ≡ 1 → ⊥) → Splits 1 (signedShare s d m) (shareSize s d m) 0
     splits-even h = record {
-      difference = +ℤ-idr (pos (choose (d - s - 1) m)) ∙ sym (negative ∙ rw (odd-even m h));
-      plus-small = omega (arith, choose-within (d - s - 1) m few (omega arith));
+      difference = +ℤ-idr (pos (shareSize s d m)) ∙ sym (negative ∙ rw (odd-even m h));
+      plus-small = omega (arith, size-small);
       minus-small = omega arith;
     }
 
@@ -228,7 +298,8 @@ module _ (n : ℕ) (t marks : List ℕ) (c : Checked n t) (m : Marked n t marks)
   count-sum = omega (arith, janet-count n (rows n t) (counted n t c) s, shares-marked n t marks m s)
 
   -- rule 8
-  pub polynomial-sum : (plus minus : ℕ) → pos plus -ℤ pos minus ≡ signedSharesOf s (rows n t) marks → pos (choose (n + s) n + minus) -ℤ pos plus ≡ polynomialAt n (rows n t) s
+  pub polynomial-sum : (plus minus : ℕ) → pos plus -ℤ pos minus ≡ signedSharesOf s (rows n t) marks
+      → pos (choose (n + s) n + minus) -ℤ pos plus ≡ polynomialAt n (rows n t) s
   unfolding polynomialAt
   polynomial-sum plus minus e = polynomial-split (choose (n + s) n) plus minus _ (e ∙ signed-marked n t marks m s)
 

@@ -3,18 +3,15 @@
 --   steady-le, steady-least   the steady degree is the least number that no degree of a row exceeds
 --   signed-share-inside    where the row's degree is not above s, the share with a sign is the share
 --   polynomial-count       from the steady degree on the polynomial is the count
-use mathlib.Core.Path.{_≡_, refl, sym, ap, ap₂, _∙_, subst}
-use mathlib.Core.Bool.{Bool, true, false, cond}
-use mathlib.Core.List.{List, [], _∷_, List·Memᴰ·head, List·Memᴰ·tail, List·Memᴰ·cases-cons, List·Memᴰ·not-nil}
+use mathlib.Core.Path.{_≡_, refl, sym, ap, ap₂, _∙_}
+use mathlib.Core.List.{[], _∷_, List·Memᴰ·head, List·Memᴰ·tail, List·Memᴰ·cases-cons, List·Memᴰ·not-nil}
 use mathlib.Core.Logic.{⊎-elim}
-use Prim.Native.Nat.{ℕ, zero, suc, _+_, _-_, _≤_, _<_, max}
+use Prim.Native.Nat.{ℕ, _+_, _-_, _≤_}
 use native.Mathlib.Omega.{arith}
 use borrow.Author.Tests.{le-ltb}
-use lib.Dec.{T, ltb}
-use lib.IntN.{ℤ, pos, negsuc, negℤ, subℕ, _+ℤ_, _-ℤ_, +ℤ-negℤ-cancel, pos-+ℤ-pos}
-use Rattle.binomial.specs.Choose.{choose}
+use lib.IntN.{ℤ, pos, subℕ, _-ℤ_, +ℤ-negℤ-cancel, pos-+ℤ-pos}
 use Rattle.terms.specs.Monomials.{Monomial, Table, _∈_, degree}
-use Rattle.counting.specs.Counts.{sum, sumℤ, countAt, share, marksIn, chooseℤ, signedShare, polynomialAt, steadyOf}
+use Rattle.counting.specs.Counts.{sum, countAt, share, marksIn, chooseℤ, signedShare, polynomialAt, steadyOf}
 use Rattle.counting.proofs.SumLaws.{sumℤ-pos}
 use Rattle.counting.proofs.ShareLaws.{share-inside}
 use Rattle.counting.proofs.JanetCount.{CountTable, janetShare, janet-count}

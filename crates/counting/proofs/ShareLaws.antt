@@ -1,29 +1,30 @@
 -- Laws of a cone's share: how many monomials of degree at most s lie in the cone of a row.
 --
 --   size s d m       the share by steps: each degree of the row lowers s by one
---   share-size       it is the share of rule 7
+--   share-inside, share-outside, share-unmarked   the cases of rule 7
+--   share-size       the share by steps is the share of rule 7
 --   coneTest ks u q  q is in the cone of u, variable by variable; ks has a Boolean for each variable: marked or not
 --   tests-cone       that test agrees with rule 3
 --   cone-count       the share is the number of monomials up to s in the cone
 --   listed n f       the marks of the variables 1 to n as a list
 --   weight-listed    their number
-use mathlib.Core.Path.{_≡_, refl, sym, ap, ap₂, _∙_, subst}
-use mathlib.Core.Bool.{Bool, true, false, not, _&&_}
-use mathlib.Core.List.{List, [], _∷_, _++_, map, List·Memᴰ}
+use mathlib.Core.Path.{_≡_, refl, sym, ap, ap₂, _∙_}
+use mathlib.Core.Bool.{Bool, true, false, _&&_}
+use mathlib.Core.List.{List, [], _∷_, map}
 use mathlib.Core.Logic.{by-cases}
 use Prim.Native.Nat.{ℕ, zero, suc, _+_, _-_, _≤_, _<_}
 use native.Mathlib.Nat.{not-suc-le-zero, le-of-suc-le-suc, suc-inj, add-zero, suc-add, zero-add, sub-zero, suc-sub-suc}
 use native.Mathlib.Decide.{decLe}
 use native.Mathlib.Omega.{arith}
 use borrow.Author.Tests.{le-leb, lt-leb}
-use lib.Dec.{T, leb}
+use lib.Dec.{T}
 use lib.ListN.{length, getD}
 use Rattle.binomial.specs.Choose.{choose}
-use Rattle.binomial.proofs.ChooseLaws.{choose-self}
+use Rattle.binomial.proofs.ChooseLaws.{choose-self, choose-none}
 use Rattle.terms.specs.Tests.{Tests, pick, tests-as, tests-and}
 use Rattle.terms.specs.Monomials.{Monomial, _!_, degree}
-use Rattle.counting.specs.Counts.{sum, raised, extended, monomialsUpTo, share}
 use Rattle.division.proofs.Facade.{marksCount}
+use Rattle.counting.specs.Counts.{sum, raised, extended, monomialsUpTo, share}
 use Rattle.counting.proofs.SumLaws.{bit, sum-append, sum-zero, sum-same, sum-map}
 
 -- ---- the share by steps
@@ -49,6 +50,10 @@ size-outside (suc s) (suc d) m h = size-outside s d m (le-of-suc-le-suc h)
 pub share-inside : (s d m : ℕ) → d ≤ s → share s d m ≡ choose (s - d + m) m
 unfolding share
 share-inside s d m h = rw (le-leb d s h)
+
+-- with no mark a row takes away 1
+pub share-unmarked : (s d : ℕ) → d ≤ s → share s d 0 ≡ 1
+share-unmarked s d h = share-inside s d 0 h ∙ choose-none (s - d + 0)
 
 pub share-outside : (s d m : ℕ) → s < d → share s d m ≡ 0
 unfolding share
@@ -112,13 +117,16 @@ unfolding reaches
 tests-reaches k zero zero = record { sound = λ t. (omega arith, λ h. absurd (omega arith)); complete = λ p. tt }
 tests-reaches k zero (suc a) = record { sound = λ t. (omega arith, λ h. t); complete = λ p. p .1 (omega arith) }
 tests-reaches k (suc b) zero = record { sound = λ t. absurd t; complete = λ p. not-suc-le-zero (p .0) }
-tests-reaches k (suc b) (suc a) = tests-as (tests-reaches k b a) (λ p. (omega (arith, p .0), λ h. p .1 (omega arith))) (λ p. (omega (arith, p .0), λ h. p .1 (omega arith)))
+tests-reaches k (suc b) (suc a) = tests-as (tests-reaches k b a)
+    (λ p. (omega (arith, p .0), λ h. p .1 (omega arith)))
+    (λ p. (omega (arith, p .0), λ h. p .1 (omega arith)))
 
 abbrev Reached : List Bool → Monomial → Monomial → ℕ → Type 0
 Reached ks u q i = (u ! i ≤ q ! i) × (u ! i < q ! i → T (markAt ks i))
 
 -- from the first variable and the others to each, and back
-reached-cons : (k : Bool) (ks : List Bool) (b a : ℕ) (u q : Monomial) → (b ≤ a) × (b < a → T k) → ((i : ℕ) → Reached ks u q i) → (i : ℕ) → Reached (k ∷ ks) (b ∷ u) (a ∷ q) i
+reached-cons : (k : Bool) (ks : List Bool) (b a : ℕ) (u q : Monomial) → (b ≤ a) × (b < a → T k) → ((i : ℕ) → Reached ks u q i) → (i : ℕ)
+    → Reached (k ∷ ks) (b ∷ u) (a ∷ q) i
 reached-cons k ks b a u q p r zero = (omega arith, λ h. tt)
 reached-cons k ks b a u q p r (suc zero) = p
 reached-cons k ks b a u q p r (suc (suc i)) = r (suc i)
@@ -127,7 +135,8 @@ reached-tail : (k : Bool) (ks : List Bool) (b a : ℕ) (u q : Monomial) → ((i 
 reached-tail k ks b a u q r zero = (omega arith, λ h. tt)
 reached-tail k ks b a u q r (suc i) = r (suc (suc i))
 
-pub tests-cone : (ks : List Bool) (u q : Monomial) → length ks ≡ length u → length ks ≡ length q → Tests (coneTest ks u q) ((i : ℕ) → (u ! i ≤ q ! i) × (u ! i < q ! i → T (markAt ks i)))
+pub tests-cone : (ks : List Bool) (u q : Monomial) → length ks ≡ length u → length ks ≡ length q
+    → Tests (coneTest ks u q) ((i : ℕ) → (u ! i ≤ q ! i) × (u ! i < q ! i → T (markAt ks i)))
 unfolding coneTest
 tests-cone [] [] [] e f = record { sound = λ t i. nothing i; complete = λ p. tt }
   where
@@ -198,7 +207,8 @@ module _ (ks : List Bool) (u : Monomial) (f : ℕ → List Monomial) (d m : ℕ)
       rw suc-add (split k (suc b) s ∙ ap₂ (λ (x y : ℕ). x + y) (first-suc k b (suc s))
       (sum-same _ _ (extended f s) (λ q h. raised-suc k b q) ∙ cone-extended s k b) ∙ zero-add _)
 
-pub cone-count : (ks : List Bool) (u : Monomial) → length ks ≡ length u → (s : ℕ) → sum (λ q. bit (coneTest ks u q)) (monomialsUpTo (length u) s) ≡ size s (degree u) (weight ks)
+pub cone-count : (ks : List Bool) (u : Monomial) → length ks ≡ length u → (s : ℕ)
+    → sum (λ q. bit (coneTest ks u q)) (monomialsUpTo (length u) s) ≡ size s (degree u) (weight ks)
 unfolding monomialsUpTo degree weight sum size choose coneTest
 cone-count [] [] e s = refl
 cone-count [] (b ∷ u) e s = omega arith

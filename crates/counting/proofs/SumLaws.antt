@@ -5,11 +5,11 @@
 --   length-keep      the number of elements kept is the sum of the bits
 --   keep-or-not      those kept and those not kept are all
 --   one-at-most      where no two places pass, the sum of the bits is the bit of 'some element passes'
-use mathlib.Core.Path.{_≡_, refl, sym, ap, ap₂, _∙_, subst}
+use mathlib.Core.Path.{_≡_, refl, sym, ap₂, _∙_, subst}
 use mathlib.Core.Bool.{Bool, true, false, not, _||_}
 use mathlib.Core.List.{List, [], _∷_, _++_, map, List·Memᴰ, List·Memᴰ·head, List·Memᴰ·tail}
-use Prim.Native.Nat.{ℕ, zero, suc, _+_, _*_, _≤_, _<_}
-use native.Mathlib.Nat.{not-suc-le-zero, le-of-suc-le-suc, suc-inj}
+use Prim.Native.Nat.{ℕ, suc, _+_, _*_, _≤_, _<_}
+use native.Mathlib.Nat.{suc-inj}
 use native.Mathlib.Omega.{arith}
 use lib.Dec.{T}
 use lib.ListN.{length, getD}
@@ -76,12 +76,14 @@ module _ {A : Type 0} where
   keep-or-not f [] = refl
   keep-or-not f (x ∷ l) = go (f x) (keep-or-not f l)
     where
-      go : (b : Bool) → length (keep (λ y. not (f y)) l) + length (keep f l) ≡ length l → length (pick (not b) (x ∷ keep (λ y. not (f y)) l) (keep (λ y. not (f y)) l)) + length (pick b (x ∷ keep f l) (keep f l)) ≡ suc (length l)
+      go : (b : Bool) → length (keep (λ y. not (f y)) l) + length (keep f l) ≡ length l
+          → length (pick (not b) (x ∷ keep (λ y. not (f y)) l) (keep (λ y. not (f y)) l)) + length (pick b (x ∷ keep f l) (keep f l)) ≡ suc (length l)
       go true e = omega arith
       go false e = omega arith
 
   -- By induction: where the first element passes, no later one does, and the rest sums to 0.
-  pub one-at-most : (f : A → Bool) (d : A) (l : List A) → ((r s : ℕ) → r < length l → s < length l → (r ≡ s → ⊥) → T (f (getD l r d)) → T (f (getD l s d)) → ⊥) → sum (λ x. bit (f x)) l ≡ bit (any f l)
+  pub one-at-most : (f : A → Bool) (d : A) (l : List A)
+      → ((r s : ℕ) → r < length l → s < length l → (r ≡ s → ⊥) → T (f (getD l r d)) → T (f (getD l s d)) → ⊥) → sum (λ x. bit (f x)) l ≡ bit (any f l)
   unfolding sum
   one-at-most f d [] h = refl
   one-at-most f d (x ∷ l) h = go (f x) (λ t. t) (one-at-most f d l (λ r s p q e. h (suc r) (suc s) (omega arith) (omega arith) (λ g. e (suc-inj g))))

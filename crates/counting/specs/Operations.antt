@@ -6,10 +6,10 @@
 --   CountPromise n table s answer, PolynomialPromise, SteadyPromise   the promise: the number is that of the first check that refuses,
 --                    and where none does the answer is the value of the rule
 use mathlib.Core.Path.{_≡_}
-use mathlib.Core.Bool.{Bool, not}
+use mathlib.Core.Bool.{not}
 use mathlib.Core.List.{List, [], _∷_, _++_}
 use Prim.Native.Nat.{ℕ, _<_}
-use lib.Dec.{ltb, lit<}
+use lib.Dec.{lit<}
 use lib.IntN.{ℤ, pos}
 use Rattle.terms.specs.Tests.{Tests, tests-lt, tests-not}
 use Rattle.terms.specs.Order.{Ascending, ascendingTest}
@@ -24,7 +24,6 @@ use Rattle.counting.specs.declared.PolynomialAnswer.{PolynomialAnswer}
 use Rattle.counting.specs.declared.PolynomialAnswer.the-variants as polynomial
 use Rattle.counting.specs.declared.SteadyAnswer.{SteadyAnswer}
 use Rattle.counting.specs.declared.SteadyAnswer.the-variants as steady
-use Rattle.terms.specs.declared.Degree.{Degree}
 
 -- ---- the checks
 

@@ -2,6 +2,9 @@
 pub mod JanetLaws
 pub mod Cover
 pub mod MarksLaws
+pub mod OrderingLaws
+pub mod SuccessorLaws
+pub mod MarkingLaws
 pub mod NumberLaws
 pub mod DescentLaws
 pub mod Facade
@@ -10,5 +13,5 @@ pub mod RangeLaws
 pub mod SteppingLaws
 pub mod ReadyLaws
 pub mod FindLaws
-pub mod SuccessorLaws
 pub mod CompleteLaws
+pub mod InsideLaws

@@ -9,24 +9,25 @@
 --   marks-ones             the number of its bits is the number of marks
 --   count-le, count-same   there are at most n marks; their number depends on the variables 1 to n alone
 --   length-tableMarks, tableMarks-at, tests-marks   the marks of a table's rows
---   successor-behind, -at, -before   of a row that is not the last: with k the first variable where it differs from the next row, it has all marks
+--   highest-marks          in a table in any order: a row that none comes after has all marks
+--   next-behind, -at, -before   of a row with a next row in the order of rows: with k the first variable where they differ, it has all marks
 --                          behind k, none at k, and before k those of the next row
---   last-marks             the last row has all marks
---   marks-successor, marks-last   the same of the bytes
+--   marks-highest, marks-next   the same of the bytes
+--   last-marks, marks-last, marks-successor   the same of an ascending table, whose next row stands next
 use mathlib.Core.Path.{_≡_, refl, sym, ap, _∙_, subst}
 use mathlib.Core.Bool.{Bool, true, false}
 use mathlib.Core.List.{[], _∷_, map}
-use mathlib.Core.Logic.{_⊎_, inl, inr, ⊎-elim, by-cases}
+use mathlib.Core.Logic.{_⊎_, ⊎-elim, by-cases}
 use Prim.Native.Nat.{ℕ, zero, suc, _+_, _*_, _-_, _/_, _%_, _^_, _≤_, _<_}
 use native.Mathlib.Nat.{not-suc-le-zero, eq-or-lt-of-le, le-of-suc-le-suc, two-pow-succ, mod-eq-of-lt, div-eq-of-lt, mul-add-mod-self-right, mul-assoc}
-use native.Mathlib.Decide.{decLe, decLt}
+use native.Mathlib.Decide.{decLe}
 use native.Mathlib.Omega.{arith}
 use lib.Dec.{T, eqb}
 use lib.ListN.{length, getD, length-map}
 use lib.Pow.{pow-add, pow-mono, field, high}
 use lib.Count.{ones, ones-cat}
 use Rattle.terms.specs.Tests.{Tests, pick, tests-as, tests-same, tests-true, tests-false}
-use Rattle.terms.specs.Monomials.{Monomial, Table, _!_, rowAt, SameBefore}
+use Rattle.terms.specs.Monomials.{Monomial, Table, _!_, _∈_, rowAt, SameBefore}
 use Rattle.terms.specs.Order.{Precedes, Ascending}
 use Rattle.terms.proofs.OrderLaws.{precedes-irreflexive, precedes-trans, ascending-between}
 use Rattle.terms.proofs.RowsLaws.{member-at, member-index}
@@ -177,78 +178,85 @@ tests-marks n G u i l =
     rw (marks-bit (multiplicativeTest G u) n i l)
     (tests-as (tests-bit (multiplicativeTest G u (suc i))) (tests-multiplicative G u (suc i) .sound) (tests-multiplicative G u (suc i) .complete))
 
--- ---- an ascending table: the marks of a row by the next row
+-- ---- the marks of a row by the next row in the order of rows, in a table in any order
 
--- A row v of u's group at i that is above u there comes after u. So the last row has all marks. Where u has a next row w and they differ first at k:
--- behind k the row v equals u at k, so it comes before w, but no row stands between u and w. At k the next row is in u's group and above it.
--- Before k the groups of u and w are the same, and so are their exponents.
+-- A row v of u's group at i that is above u there comes after u. So where no row comes after u, it has all marks. Where w is the next row in the
+-- order of rows and they differ first at k: behind k the row v equals u at k, so it comes before w, but no row stands between u and w. At k the row
+-- w is in u's group and above it. Before k the groups of u and w are the same, and so are their exponents.
 
-module _ (G : Table) (a : Ascending G) (r : ℕ) where
-  -- rows above r's in its group at i come after it
-  after : (i : ℕ) (v : Monomial) → InGroup G (rowAt G r) i v → rowAt G r ! i < v ! i → r < length G → (s : ℕ) × (r < s) × (s < length G) × (rowAt G s ≡ v)
-  after i v g h l =
-      let p = member-index G [] v (g .member) in
-      let b : Precedes (rowAt G r) v = record { at = i; same = λ j t. sym (g .same j t); less = h } in
-      let c : Precedes (rowAt G r) (rowAt G (p .0)) = subst (λ (w : Monomial). Precedes (rowAt G r) w) (sym (p .2)) b in (
-        p .0,
-        by-cases (decLt r (p .0)) (λ t. t) (λ t. absurd (before (p .0) c (by-cases (decLt (p .0) r) inl (λ o. inr (omega arith))) l)),
-        p .1,
-        p .2,
-      )
-    where
-      before : (s : ℕ) → Precedes (rowAt G r) (rowAt G s) → (s < r) ⊎ (s ≡ r) → r < length G → ⊥
-      before s c (inl t) l = precedes-irreflexive (rowAt G r) (precedes-trans c (ascending-between G a s r t l))
-      before s c (inr e) l = precedes-irreflexive (rowAt G r) (subst (λ (x : ℕ). Precedes (rowAt G r) (rowAt G x)) e c)
+above-after : {G : Table} {u v : Monomial} {i : ℕ} → InGroup G u i v → u ! i < v ! i → Precedes u v
+above-after {i = i} g h = record { at = i; same = λ j t. sym (g .same j t); less = h }
 
-  last-all : suc r ≡ length G → (i : ℕ) → Multiplicative G (rowAt G r) i
-  last-all e i v g = by-cases (decLe (v ! i) (rowAt G r ! i)) (λ l. l)
-      (λ h. let p = after i v g (omega arith) (omega arith) in absurd (omega (arith, p .1, p .2)))
+module _ (G : Table) (u : Monomial) where
+  pub highest-marks : ((v : Monomial) → v ∈ G → Precedes u v → ⊥) → (i : ℕ) → multiplicativeTest G u i ≡ true
+  highest-marks none i = sym (tests-true (tests-multiplicative G u i)
+      (λ v g. by-cases (decLe (v ! i) (u ! i)) (λ l. l) (λ o. absurd (none v (g .member) (above-after g (omega arith))))))
 
-  pub last-marks : suc r ≡ length G → (i : ℕ) → multiplicativeTest G (rowAt G r) i ≡ true
-  last-marks e i = sym (tests-true (tests-multiplicative G (rowAt G r) i) (last-all e i))
-
-  module _ (l : suc r < length G) (k : ℕ) (same : SameBefore k (rowAt G r) (rowAt G (suc r))) (less : rowAt G r ! k < rowAt G (suc r) ! k) where
-    behind-all : (i : ℕ) → k < i → Multiplicative G (rowAt G r) i
-    behind-all i h v g = by-cases (decLe (v ! i) (rowAt G r ! i)) (λ o. o) (λ o.
-        let p = after i v g (omega arith) (omega arith) in
-        let e : v ! k ≡ rowAt G r ! k = g .same k h in
-        let b : Precedes v (rowAt G (suc r)) = record { at = k; same = λ j t. g .same j (omega arith) ∙ same j t; less = omega arith } in
-        let c : Precedes (rowAt G (p .0)) (rowAt G (suc r)) = subst (λ (w : Monomial). Precedes w (rowAt G (suc r))) (sym (p .3)) b in
-        absurd (between (p .0) (p .1) (p .2) c))
+  module _ (w : Monomial) (member : w ∈ G) (none : (v : Monomial) → v ∈ G → Precedes u v → Precedes v w → ⊥)
+      (k : ℕ) (same : SameBefore k u w) (less : u ! k < w ! k) where
+    pub next-behind : (i : ℕ) → k < i → multiplicativeTest G u i ≡ true
+    next-behind i h = sym (tests-true (tests-multiplicative G u i)
+        (λ v g. by-cases (decLe (v ! i) (u ! i)) (λ l. l) (λ o. absurd (none v (g .member) (above-after g (omega arith)) (before-w v g)))))
       where
-        between : (s : ℕ) → r < s → s < length G → Precedes (rowAt G s) (rowAt G (suc r)) → ⊥
-        between s t m c = ⊎-elim
-            (λ e. precedes-irreflexive (rowAt G s) (subst (λ (x : ℕ). Precedes (rowAt G s) (rowAt G x)) e c))
-            (λ n. precedes-irreflexive (rowAt G s) (precedes-trans c (ascending-between G a (suc r) s n m)))
-            (eq-or-lt-of-le t)
+        before-w : (v : Monomial) → InGroup G u i v → Precedes v w
+        before-w v g = record { at = k; same = λ j t. g .same j (omega arith) ∙ same j t; less = omega (arith, g .same k h) }
 
-    pub successor-behind : (i : ℕ) → k < i → multiplicativeTest G (rowAt G r) i ≡ true
-    successor-behind i h = sym (tests-true (tests-multiplicative G (rowAt G r) i) (behind-all i h))
+    pub next-at : multiplicativeTest G u k ≡ false
+    next-at = sym (tests-false (tests-multiplicative G u k) (λ m. omega (arith, m w (record { member = member; same = λ j t. sym (same j t) }))))
 
-    pub successor-at : multiplicativeTest G (rowAt G r) k ≡ false
-    successor-at = sym (tests-false (tests-multiplicative G (rowAt G r) k) (λ m.
-        omega (arith, m (rowAt G (suc r)) (record { member = member-at G [] (suc r) l; same = λ j t. sym (same j t) }))))
+    pub next-before : (i : ℕ) → i < k → multiplicativeTest G u i ≡ multiplicativeTest G w i
+    next-before i h = tests-same (multiplicativeTest G u i) (multiplicativeTest G w i)
+        (tests-multiplicative G u i)
+        (tests-as (tests-multiplicative G w i)
+        (multiplicative-same G w u i (λ j t. sym (same j (omega arith))) (sym (same i h)))
+        (multiplicative-same G u w i (λ j t. same j (omega arith)) (same i h)))
 
-    pub successor-before : (i : ℕ) → i < k → multiplicativeTest G (rowAt G r) i ≡ multiplicativeTest G (rowAt G (suc r)) i
-    successor-before i h = tests-same (multiplicativeTest G (rowAt G r) i) (multiplicativeTest G (rowAt G (suc r)) i)
-        (tests-multiplicative G (rowAt G r) i)
-        (tests-as (tests-multiplicative G (rowAt G (suc r)) i)
-        (multiplicative-same G (rowAt G (suc r)) (rowAt G r) i (λ j t. sym (same j (omega arith))) (sym (same i h)))
-        (multiplicative-same G (rowAt G r) (rowAt G (suc r)) i (λ j t. same j (omega arith)) (same i h)))
+module _ (n : ℕ) (G : Table) (u : Monomial) where
+  -- the byte of the last row
+  pub marks-highest : ((v : Monomial) → v ∈ G → Precedes u v → ⊥) → marksOf n G u + 1 ≡ 2 ^ n
+  unfolding marksOf
+  marks-highest none = marks-all n (multiplicativeTest G u) (λ i p l. highest-marks G u none i)
 
--- the byte of the last row
+  -- the byte of a row by that of the next: its bits before the variable suc j where they first differ, and all bits behind it
+  pub marks-next : (w : Monomial) → w ∈ G → ((v : Monomial) → v ∈ G → Precedes u v → Precedes v w → ⊥) → (j : ℕ) → j < n
+      → SameBefore (suc j) u w → u ! suc j < w ! suc j → marksOf n G u + 2 ^ suc j ≡ marksOf n G w % 2 ^ j + 2 ^ n
+  unfolding marksOf
+  marks-next w m none j h s p =
+      let f : ℕ → Bool = multiplicativeTest G u in
+      let g : ℕ → Bool = multiplicativeTest G w in
+      let e : marksByte n g % 2 ^ j ≡ marksByte j f =
+      marks-mod g n j (omega arith) ∙ sym (marks-same j f g (λ i o t. next-before G u w m none (suc j) s p i (omega arith))) in
+      omega (arith, marks-behind n j f h (next-at G u w m none (suc j) s p) (λ i o t. next-behind G u w m none (suc j) s p i o))
+
+-- ---- an ascending table: no row comes after the last, and none stands between a row and the next
+
+module _ (G : Table) (a : Ascending G) where
+  not-back : (s r : ℕ) → s ≤ r → r < length G → Precedes (rowAt G r) (rowAt G s) → ⊥
+  not-back s r l h p = ⊎-elim
+      (λ e. precedes-irreflexive (rowAt G r) (subst (λ (x : ℕ). Precedes (rowAt G r) (rowAt G x)) e p))
+      (λ o. precedes-irreflexive (rowAt G r) (precedes-trans p (ascending-between G a s r o h)))
+      (eq-or-lt-of-le l)
+
+  module _ (r : ℕ) where
+    none-after : suc r ≡ length G → (v : Monomial) → v ∈ G → Precedes (rowAt G r) v → ⊥
+    none-after e v m p =
+        let i = member-index G [] v m in
+        not-back (i .0) r (omega (arith, i .1)) (omega arith) (subst (λ (x : Monomial). Precedes (rowAt G r) x) (sym (i .2)) p)
+
+    none-between : suc r < length G → (v : Monomial) → v ∈ G → Precedes (rowAt G r) v → Precedes v (rowAt G (suc r)) → ⊥
+    none-between l v m p q =
+        let i = member-index G [] v m in
+        by-cases (decLe (i .0) r)
+        (λ h. not-back (i .0) r h (omega arith) (subst (λ (x : Monomial). Precedes (rowAt G r) x) (sym (i .2)) p))
+        (λ g. not-back (suc r) (i .0) (omega arith) (i .1) (subst (λ (x : Monomial). Precedes x (rowAt G (suc r))) (sym (i .2)) q))
+
+    pub last-marks : suc r ≡ length G → (i : ℕ) → multiplicativeTest G (rowAt G r) i ≡ true
+    last-marks e i = highest-marks G (rowAt G r) (none-after e) i
+
 pub marks-last : (n : ℕ) (G : Table) → Ascending G → (r : ℕ) → suc r ≡ length G → marksOf n G (rowAt G r) + 1 ≡ 2 ^ n
-unfolding marksOf
-marks-last n G a r e = marks-all n (multiplicativeTest G (rowAt G r)) (λ i p l. last-marks G a r e i)
+marks-last n G a r e = marks-highest n G (rowAt G r) (none-after G a r e)
 
--- the byte of a row by that of the next: its bits before the variable suc j where they first differ, and all bits behind it
 pub marks-successor : (n : ℕ) (G : Table) → Ascending G → (r : ℕ) → suc r < length G → (j : ℕ) → j < n
     → SameBefore (suc j) (rowAt G r) (rowAt G (suc r)) → rowAt G r ! suc j < rowAt G (suc r) ! suc j
     → marksOf n G (rowAt G r) + 2 ^ suc j ≡ marksOf n G (rowAt G (suc r)) % 2 ^ j + 2 ^ n
-unfolding marksOf
-marks-successor n G a r l j h s p =
-    let f : ℕ → Bool = multiplicativeTest G (rowAt G r) in
-    let g : ℕ → Bool = multiplicativeTest G (rowAt G (suc r)) in
-    let e : marksByte n g % 2 ^ j ≡ marksByte j f =
-    marks-mod g n j (omega arith) ∙ sym (marks-same j f g (λ i o t. successor-before G a r l (suc j) s p i (omega arith))) in
-    omega (arith, marks-behind n j f h (successor-at G a r l (suc j) s p) (λ i o t. successor-behind G a r l (suc j) s p i o))
+marks-successor n G a r l = marks-next n G (rowAt G r) (rowAt G (suc r)) (member-at G [] (suc r) l) (none-between G a r l)

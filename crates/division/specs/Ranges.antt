@@ -5,7 +5,6 @@
 --   FirstLarger G i lo hi r   r is the first later row of the range with a larger exponent at i than row lo, or hi where there is none
 --   Searched n G i a lo hi   a range of rows of G whose first row has no exponent above a at variable i
 --   Between G i a lo hi low high   row low of the range has no exponent above a at i, row high has one above it, or is the range's end
---   FirstDifference G n r i   i is the first variable at which row r and the next differ
 --   after s d        the descent d, with s steps taken before it
 --   descendFrom n G q i lo hi   rule 6 from variable i on, in the group of the rows lo to before hi
 --   Reached n G q i lo hi steps   what the code knows where it goes on so: the rows ascend, those are a group, and few steps are left
@@ -54,12 +53,6 @@ pub record Between (G : Table) (i a lo hi low high : ℕ) : Type 0 where
   pub within : high ≤ hi
   pub not-above : rowAt G low ! i ≤ a
   pub above : high < hi → a < rowAt G high ! i
-
-pub record FirstDifference (G : Table) (n r i : ℕ) : Type 0 where
-  pub variable : 0 < i
-  pub within : i ≤ n
-  pub same : SameBefore i (rowAt G r) (rowAt G (suc r))
-  pub less : rowAt G r ! i < rowAt G (suc r) ! i
 
 abbrev pub after : ℕ → Descent → Descent
 after s d = record { found = d .found; steps = s + d .steps; ended = d .ended }

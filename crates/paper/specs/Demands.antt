@@ -12,15 +12,19 @@
 use mathlib.Core.Path.{_≡_}
 use mathlib.Core.List.{List}
 use mathlib.Core.Logic.{_↔_}
-use Prim.Native.Nat.{ℕ, _+_, _*_, _≤_, _<_}
-use lib.ListN.{length, take, drop}
-use Rattle.terms.specs.Monomials.{Monomial, Table, _!_, degree}
+use Prim.Native.Nat.{ℕ, suc, _+_, _*_, _/_, _%_, _^_, _≤_, _<_}
+use lib.ListN.{length, take, drop, getD}
+use Rattle.terms.specs.Monomials.{Monomial, Table, _!_, rowAt, degree}
 use Rattle.terms.specs.Ideal.{Inside, SameIdeal}
 use Rattle.terms.specs.Rows.{rows, firstRows}
 use Rattle.terms.specs.Refusals.{Check, Accepts, Refuses, tableChecks}
 use Rattle.division.specs.Cones.{DivisorAt}
 use Rattle.division.specs.Janet.{Multiplicative, Complete}
 use Rattle.division.specs.Scan.{scan}
+use Rattle.division.specs.Marking.{MarksPromise, marksChecks, marksNumber}
+use Rattle.division.specs.Inside.{InsidePromise, insideChecks, insideNumber}
+use Rattle.division.specs.declared.marking.MarksAnswer.{MarksAnswer}
+use Rattle.division.specs.declared.inside.InsideAnswer.{InsideAnswer}
 use Rattle.division.specs.Operations.{FindPromise, findChecks, findNumber, findRow, findSteps}
 use Rattle.completion.specs.Completed.{CompletedTable}
 use Rattle.completion.specs.Operation.{CompletePromise, completeChecks, completeNumber, completeRows, roomFor}
@@ -42,6 +46,9 @@ pub record Settled (checks : List Check) (number : ℕ) : Type 1 where
   pub refused : 0 < number → Refuses checks number
 
 pub record DemandOne : Type 1 where
+  pub marks : (n : ℕ) (table buffer : List ℕ) (answer : MarksAnswer) (after : List ℕ) → MarksPromise n table buffer answer after
+      → Settled (marksChecks n table (length buffer)) (marksNumber answer) × (0 < marksNumber answer → after ≡ buffer)
+  pub inside : (n : ℕ) (table query : List ℕ) (answer : InsideAnswer) → InsidePromise n table query answer → Settled (insideChecks n table query) (insideNumber answer)
   pub complete : (n : ℕ) (table buffer : List ℕ) (answer : CompleteAnswer) (after : List ℕ) → CompletePromise n table buffer answer after
       → Settled (completeChecks n table (length buffer)) (completeNumber answer) × (0 < completeNumber answer → after ≡ buffer)
   pub find : (n : ℕ) (table query : List ℕ) (answer : FindAnswer) → FindPromise n table query answer → Settled (findChecks n table query) (findNumber answer)
@@ -58,7 +65,15 @@ pub record Completion (n : ℕ) (table buffer : List ℕ) (k : ℕ) (after : Lis
   pub ideal : SameIdeal n (rows n table) (firstRows n k after)
   pub behind : drop (k * n) after ≡ drop (k * n) buffer
 
+-- what stands in the buffer after accepted marks: of row r's byte, bit j is set exactly when variable j + 1 is multiplicative for the row
+pub record Marking (n : ℕ) (table buffer after : List ℕ) : Type 0 where
+  pub marks : (r j : ℕ) → r < length (rows n table) → j < n → (getD after r 0 / 2 ^ j % 2 ≡ 1) ↔ Multiplicative (rows n table) (rowAt (rows n table) r) (suc j)
+  pub small : (r : ℕ) → r < length (rows n table) → getD after r 0 < 2 ^ n
+  pub behind : drop (length (rows n table)) after ≡ drop (length (rows n table)) buffer
+
 pub record DemandTwo : Type 1 where
+  pub marks : (n : ℕ) (table buffer : List ℕ) (answer : MarksAnswer) (after : List ℕ) → MarksPromise n table buffer answer after
+      → marksNumber answer ≡ 0 → Marking n table buffer after
   pub complete : (n : ℕ) (table buffer : List ℕ) (answer : CompleteAnswer) (after : List ℕ) → CompletePromise n table buffer answer after
       → completeNumber answer ≡ 0 → Completion n table buffer (completeRows answer) after
   -- 8 exactly when rule 5's table has more rows than the room

@@ -1,2 +1,3 @@
 -- What is promised, in one place.
 pub mod Demands
+pub mod Examples

@@ -1,3 +1,4 @@
+-- `bundle_refusal` meets its contract: the layout refuses, or it passes and one pass over what stands behind the header decides 4.
 use Rattle.bundle.proofs.AcceptedLaws.{laid}
 use Rattle.bundle.proofs.CheckLaws.{refuses-first}
 use Rattle.bundle.proofs.ReadLaws.{entry-four, entries-pass}
@@ -47,12 +48,14 @@ has-large-entry-requires c κs = search needs
 returns-2 : tie.Need-returns-2
 returns-2 c =
     let b = c .before .before .before .before .before .before .before .args .bundle .now in
-    entry-four b _ _ (sym (c .before .before .before .before .before .layout-refusal .ensures) ∙ c .before .before .before .before .if1 .left) (rw (c .before .before .before .byte-at .ensures .0)) (c .before .has-large-entry .ensures) (c .if2 .taken)
+    let passed = sym (c .before .before .before .before .before .layout-refusal .ensures) ∙ c .before .before .before .before .if1 .left in
+    entry-four b _ _ passed (rw (c .before .before .before .byte-at .ensures .0)) (c .before .has-large-entry .ensures) (c .if2 .taken)
 
 returns-3 : tie.Need-returns-3
 returns-3 c =
     let b = c .before .before .before .before .before .before .before .args .bundle .now in
-    entries-pass b _ _ (sym (c .before .before .before .before .before .layout-refusal .ensures) ∙ c .before .before .before .before .if1 .left) (rw (c .before .before .before .byte-at .ensures .0)) (c .before .has-large-entry .ensures) (c .if2 .left)
+    let passed = sym (c .before .before .before .before .before .layout-refusal .ensures) ∙ c .before .before .before .before .if1 .left in
+    entries-pass b _ _ passed (rw (c .before .before .before .byte-at .ensures .0)) (c .before .has-large-entry .ensures) (c .if2 .left)
 
 pub bundle-refusal-spec : {M : Type 1} → statement M
 bundle-refusal-spec =

@@ -1,3 +1,4 @@
+-- `frame_refusal` meets its contract: each branch is a condition of 9 or of 1, or the negation of all before it.
 use Rattle.bundle.proofs.CheckLaws.{frame-nine, has-frame, frame-one, frame-passes}
 use native.Mathlib.Omega.{arith}
 use mathlib.Core.Logic.{inl, inr}
@@ -15,32 +16,38 @@ returns-2 c = frame-nine (c .before .before .before .args .bundle .now) (inr (in
 byte-at-requires : tie.Need-byte-at-requires
 byte-at-requires c κs = search needs
 
-returns-3 : tie.Need-returns-3
-returns-3 c = frame-nine (c .before .before .before .before .before .args .bundle .now) (inr (inr (inl (λ h. omega (arith, h .0)))))
-
-returns-4 : tie.Need-returns-4
-returns-4 c = frame-nine (c .before .before .before .before .before .before .args .bundle .now) (inr (inr (inl (λ h. omega (arith, h .1)))))
-
-mul-if5 : tie.Need-mul-if5
-mul-if5 c = search needs
-
-add-if5 : tie.Need-add-if5
-add-if5 c = search needs
-
-returns-5 : tie.Need-returns-5
-returns-5 c = frame-nine (c .before .before .before .before .before .before .before .args .bundle .now) (inr (inr (inr (omega arith))))
-
 byte-at-requires-2 : tie.Need-byte-at-requires-2
 byte-at-requires-2 c κs = search needs
 
+mul-header : tie.Need-mul-header
+mul-header c = search needs
+
+add-header : tie.Need-add-header
+add-header c = search needs
+
+returns-3 : tie.Need-returns-3
+returns-3 c = frame-nine (c .before .before .before .before .before .before .args .bundle .now) (inr (inr (inl (λ h. omega (arith, h .0)))))
+
+returns-4 : tie.Need-returns-4
+returns-4 c = frame-nine (c .before .before .before .before .before .before .before .args .bundle .now) (inr (inr (inl (λ h. omega (arith, h .1)))))
+
+returns-5 : tie.Need-returns-5
+returns-5 c = frame-nine (c .before .before .before .before .before .before .before .before .args .bundle .now) (inr (inr (inr (omega arith))))
+
 returns-6 : tie.Need-returns-6
-returns-6 c = frame-one (c .before .before .before .before .before .before .before .before .before .args .bundle .now) (has-frame (c .before .before .before .before .before .before .before .before .before .args .bundle .now) (omega arith) (omega arith) (omega arith) (omega arith) (omega arith)) (λ h. omega (arith, h .0))
+returns-6 c =
+    let b = c .before .before .before .before .before .before .before .before .before .args .bundle .now in
+    frame-one b (has-frame b (omega arith) (omega arith) (omega arith) (omega arith) (omega arith)) (λ h. omega (arith, h .0))
 
 returns-7 : tie.Need-returns-7
-returns-7 c = frame-one (c .before .before .before .before .before .before .before .before .before .before .args .bundle .now) (has-frame (c .before .before .before .before .before .before .before .before .before .before .args .bundle .now) (omega arith) (omega arith) (omega arith) (omega arith) (omega arith)) (λ h. omega (arith, h .1))
+returns-7 c =
+    let b = c .before .before .before .before .before .before .before .before .before .before .args .bundle .now in
+    frame-one b (has-frame b (omega arith) (omega arith) (omega arith) (omega arith) (omega arith)) (λ h. omega (arith, h .1))
 
 returns-8 : tie.Need-returns-8
-returns-8 c = frame-passes (c .before .before .before .before .before .before .before .before .before .before .args .bundle .now) (has-frame (c .before .before .before .before .before .before .before .before .before .before .args .bundle .now) (omega arith) (omega arith) (omega arith) (omega arith) (omega arith)) (omega arith) (omega arith)
+returns-8 c =
+    let b = c .before .before .before .before .before .before .before .before .before .before .args .bundle .now in
+    frame-passes b (has-frame b (omega arith) (omega arith) (omega arith) (omega arith) (omega arith)) (omega arith) (omega arith)
 
 pub frame-refusal-spec : {M : Type 1} → statement M
 frame-refusal-spec =
@@ -49,12 +56,12 @@ frame-refusal-spec =
     returns
     returns-2
     byte-at-requires
+    byte-at-requires-2
+    mul-header
+    add-header
     returns-3
     returns-4
-    mul-if5
-    add-if5
     returns-5
-    byte-at-requires-2
     returns-6
     returns-7
     returns-8)

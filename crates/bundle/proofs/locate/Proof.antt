@@ -1,3 +1,4 @@
+-- `locate` meets its contract: the bundle is refused, it has no such table, or the header says where the table stands.
 use Rattle.bundle.proofs.AcceptedLaws.{accepted-bundle}
 use Rattle.bundle.proofs.CheckLaws.{reads-rows, reads-offset}
 use Rattle.bundle.proofs.ReadLaws.{locate-refused, locate-none, locate-opens}
@@ -60,7 +61,10 @@ read16-requires-2 c κs =
 returns-3 : tie.Need-returns-3
 returns-3 c =
     let b = c .before .before .before .before .before .before .before .before .args .bundle .now in
-    locate-opens b _ _ _ _ (sym (c .before .before .before .before .before .before .bundle-refusal .ensures) ∙ c .before .before .before .before .before .if1 .left) (omega (arith, c .before .before .before .before .byte-at .ensures .0)) (c .before .before .byte-at2 .ensures .0) (reads-rows b _ _ (c .before .read16 .ensures .0)) (reads-offset b _ _ (c .read162 .ensures .0))
+    let passed = sym (c .before .before .before .before .before .before .bundle-refusal .ensures) ∙ c .before .before .before .before .before .if1 .left in
+    let rows = reads-rows b _ _ (c .before .read16 .ensures .0) in
+    let offset = reads-offset b _ _ (c .read162 .ensures .0) in
+    locate-opens b _ _ _ _ passed (omega (arith, c .before .before .before .before .byte-at .ensures .0)) (c .before .before .byte-at2 .ensures .0) rows offset
 
 pub locate-spec : {M : Type 1} → statement M
 locate-spec =

@@ -1,4 +1,6 @@
-use Rattle.bundle.proofs.CheckLaws.{framed, body-bound, table-laid, reads-rows, Passed, passed-first, passed-next, passed-refuses, passed-remain, passed-all}
+-- `tables_refusal` meets its contract. The loop's invariant is `Passed`: the tables before j passed, the place is where body j must
+-- begin, and the checks from table j on decide. The measure is the number of tables left.
+use Rattle.bundle.proofs.CheckLaws.{framed, body-bound, Passed, passed-first, passed-next, passed-refuses, passed-remain, passed-all}
 use native.Mathlib.Omega.{arith}
 use mathlib.Core.Path.{sym, _∙_}
 use Prim.Native.Nat.{_-_}
@@ -75,9 +77,7 @@ mul-place-2 c =
     let q = c .before .before .before .before .before .before .pre in
     let f = framed (a .bundle .now) (q .0) in
     let l = c .before .before .before .before .loop in
-    let t = table-laid (a .bundle .now) (l .j) (sym (c .before .before .one-table-refusal .ensures) ∙ c .before .if1 .left) in
-    let r = reads-rows (a .bundle .now) (l .j) _ (c .read16 .ensures .0) in
-    let m = body-bound (c .read16 .result) (a .n) (omega (arith, t .limited)) (omega arith) in
+    let m = body-bound (c .read16 .result) (a .n) (omega (arith, c .read16 .ensures .1)) (omega arith) in
     omega (arith, l .inv .within)
 
 add-place-2 : tie.Need-add-place-2 Inv-loop μ-loop
@@ -86,9 +86,7 @@ add-place-2 c =
     let q = c .before .before .before .before .before .before .pre in
     let f = framed (a .bundle .now) (q .0) in
     let l = c .before .before .before .before .loop in
-    let t = table-laid (a .bundle .now) (l .j) (sym (c .before .before .one-table-refusal .ensures) ∙ c .before .if1 .left) in
-    let r = reads-rows (a .bundle .now) (l .j) _ (c .read16 .ensures .0) in
-    let m = body-bound (c .read16 .result) (a .n) (omega (arith, t .limited)) (omega arith) in
+    let m = body-bound (c .read16 .result) (a .n) (omega (arith, c .read16 .ensures .1)) (omega arith) in
     omega (arith, l .inv .within)
 
 add-j : tie.Need-add-j Inv-loop μ-loop
@@ -107,7 +105,9 @@ loop-again c =
     let a = c .before .before .before .before .before .before .args in
     let q = c .before .before .before .before .before .before .pre in
     let l = c .before .before .before .before .loop in
-    passed-next (a .bundle .now) (a .tables) (q .2) (l .place) (l .j) _ (a .n) (l .inv) (c .before .before .before .loop-test .taken) (sym (c .before .if1 .left) ∙ c .before .before .one-table-refusal .ensures) (c .read16 .ensures .0) (q .1)
+    let more = c .before .before .before .loop-test .taken in
+    let passed = sym (c .before .if1 .left) ∙ c .before .before .one-table-refusal .ensures in
+    passed-next (a .bundle .now) (a .tables) (q .2) (l .place) (l .j) _ (a .n) (l .inv) more passed (c .read16 .ensures .0) (q .1)
 
 returns-2 : tie.Need-returns-2 Inv-loop μ-loop
 returns-2 c =

@@ -1,36 +1,22 @@
-use Rattle.binomial.specs.Choose.{choose}
+-- `counting::sums::polynomial_sum` meets its contract: C(n + s, n) less the shares, as one difference of two sums.
+use mathlib.Core.Path.{_≡_, ap, _∙_}
+use Prim.Native.Nat.{ℕ, _+_, _<_}
+use native.Mathlib.Omega.{arith}
+use borrow.Author.Needs.{needs}
+use lib.IntN.{pos, _-ℤ_}
 use mir.Syntax.{w64}
 use mir.ValLaws.{toZ-ofZ}
-use lib.IntN.{ℤ, pos, _-ℤ_}
 use Rattle.binomial.proofs.ChooseLaws.{choose-within}
 use Rattle.counting.proofs.PassLaws.{summable, polynomial-sum, small-fits, abs-difference}
-use native.Mathlib.Omega.{arith}
-use borrow.Author.Tests.{le-ltb, lt-ltb, le-leb, lt-leb, eq-eqb, ne-eqb, ltb-true, ltb-false, leb-true, leb-false, eqb-true, eqb-false}
-use mathlib.Core.Path.{_≡_, refl, sym, ap, _∙_}
-use mathlib.Core.Logic.{⊎-elim}
-use mathlib.Core.List.{List, [], _∷_, _++_}
-use mathlib.Core.Bool.{Bool, true, false}
-use Prim.Native.Nat.{ℕ, zero, suc, _+_, _*_, _-_, _/_, _%_, _≤_, _<_}
-use lib.ListN.{length, take, drop, getD, set, replicate}
-use denote.Ref.{now}
-use borrow.Author.Needs.{needs}
 use Rattle.counting.proofs.sums.polynomial_sum.Statement.{statement}
 use Rattle.counting.proofs.sums.polynomial_sum.Tie as tie
-use Rattle.counting.proofs.sums.polynomial_sum.Reads as reads
-use Rattle.counting.proofs.sums.polynomial_sum.Lts as lts
-use Rattle.binomial.proofs.choose.Reads as choose-reads
-use Rattle.counting.proofs.sums.difference.Reads as difference-reads
-use Rattle.counting.proofs.sums.signed_shares.Reads as signed-shares-reads
 
--- src/sums.rt:116:22
 add-choose : tie.Need-add-choose
 add-choose c = search needs
 
--- src/sums.rt:116:9
 choose-requires : tie.Need-choose-requires
 choose-requires c κs = search needs
 
--- src/sums.rt:117:9
 signed-shares-requires : tie.Need-signed-shares-requires
 signed-shares-requires c κs =
     let start = c .before .before .before in
@@ -38,7 +24,8 @@ signed-shares-requires c κs =
 
 -- each of at most 4,096 shares and C(n + s, n) is at most the largest binomial
 small : (c : tie.After-struct-known) →
-    (c .before .before .choose .result + c .before .signed-shares .result .minus < 4611686018427387904) × (c .before .signed-shares .result .plus < 4611686018427387904)
+    (c .before .before .choose .result + c .before .signed-shares .result .minus < 4611686018427387904)
+    × (c .before .signed-shares .result .plus < 4611686018427387904)
 small c =
     let start = c .before .before .before .before .before in
     let sum = c .before .signed-shares .ensures in
@@ -46,25 +33,22 @@ small c =
     let rows = start .pre .0 .accepted .limited in
     (omega (arith, c .before .before .choose .ensures, sum .minus-small), omega (arith, sum .plus-small))
 
--- src/sums.rt:118:16
 add-difference : tie.Need-add-difference
 add-difference c = omega (arith, small c)
 
--- src/sums.rt:118:5
 difference-requires : tie.Need-difference-requires
 difference-requires c κs = small c
 
--- src/sums.rt:111:1
 returns : tie.Need-returns
 returns c =
     let start = c .before .before .before .before .before .before in
     let sum = c .before .before .signed-shares .result in
     let bounds = small (c .before) in
-    let all : c .before .before .before .choose .result ≡ choose (start .args .n + start .args .s .0) (start .args .n) = c .before .before .before .choose .ensures in
-    let e : c .difference .result ≡ pos (c .before .before .before .choose .result + sum .minus) -ℤ pos (sum .plus) = c .difference .ensures in
-    toZ-ofZ w64 _ (rw e (small-fits _ (omega (arith, abs-difference (c .before .before .before .choose .result + sum .minus) (sum .plus)))))
+    let all = c .before .before .before .choose in
+    let e : c .difference .result ≡ pos (all .result + sum .minus) -ℤ pos (sum .plus) = c .difference .ensures in
+    toZ-ofZ w64 _ (rw e (small-fits _ (omega (arith, abs-difference (all .result + sum .minus) (sum .plus)))))
     ∙ e
-    ∙ ap (λ (x : ℕ). pos (x + sum .minus) -ℤ pos (sum .plus)) all
+    ∙ ap (λ (x : ℕ). pos (x + sum .minus) -ℤ pos (sum .plus)) (all .ensures)
     ∙ polynomial-sum _ _ _ (start .pre .0) (start .pre .1) _ (sum .plus) (sum .minus) (c .before .before .signed-shares .ensures .difference)
 
 pub polynomial-sum-spec : {M : Type 1} → statement M

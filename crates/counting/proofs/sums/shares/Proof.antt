@@ -1,126 +1,96 @@
-use Rattle.terms.specs.Monomials.{Table, rowAt, degree}
+-- `counting::sums::shares` meets its contract. The invariant: the sum so far and the shares of the rows from k on make the whole, and no
+-- share exceeds the largest binomial, so 4,096 of them fit; what is known is right. The measure is what is left of the rows.
+use mathlib.Core.Path.{_≡_, ap, _∙_}
+use Prim.Native.Nat.{ℕ, _+_, _*_, _-_, _≤_, _<_}
+use native.Mathlib.Omega.{arith}
+use borrow.Author.Needs.{needs}
+use lib.Count.{ones}
+use lib.ListN.{length, drop, getD}
+use Rattle.terms.specs.Monomials.{rowAt, degree}
 use Rattle.terms.specs.Rows.{rows}
 use Rattle.terms.proofs.RowsLaws.{length-rows}
-use Rattle.counting.specs.Counts.{share, signedShare, steadyOf}
-use Rattle.counting.specs.Sums.{sharesOf, signedSharesOf, Summable, Splits}
-use lib.Count.{ones}
-use Rattle.counting.proofs.PassLaws.{share-small, marks-few, shares-next, shares-done}
-use borrow.Author.Needs.{needs}
-use native.Mathlib.Omega.{arith}
-use borrow.Author.Tests.{le-ltb, lt-ltb, le-leb, lt-leb, eq-eqb, ne-eqb, ltb-true, ltb-false, leb-true, leb-false, eqb-true, eqb-false}
-use mathlib.Core.Path.{_≡_, refl, sym, ap, _∙_}
-use mathlib.Core.Logic.{⊎-elim}
-use mathlib.Core.List.{List, [], _∷_, _++_}
-use mathlib.Core.Bool.{Bool, true, false}
-use Prim.Native.Nat.{ℕ, zero, suc, _+_, _*_, _-_, _/_, _%_, _≤_, _<_}
-use lib.ListN.{length, take, drop, getD, set, replicate}
-use denote.Ref.{now}
+use Rattle.counting.specs.Counts.{share}
+use Rattle.counting.specs.Sums.{sharesOf, Known}
+use Rattle.counting.proofs.PassLaws.{degree-small, known-none, share-small, marks-few, shares-next, shares-done}
 use Rattle.counting.proofs.sums.shares.Statement.{statement}
 use Rattle.counting.proofs.sums.shares.Tie as tie
-use Rattle.counting.proofs.sums.shares.Reads as reads
-use Rattle.counting.proofs.sums.shares.Lts as lts
-use Rattle.counting.proofs.sums.row_degree.Reads as row-degree-reads
-use Rattle.counting.proofs.sums.share.Reads as share-reads
 
 abbrev Inv-loop : tie.InvT-loop
-Inv-loop n table marks s count sum₀ k₀ sum k = (k ≤ count) × (sum + sharesOf (s .0) (drop k (rows n table)) (drop k marks) ≡ sharesOf (s .0) (rows n table) marks) × (sum ≤ k * 1085371516236)
+Inv-loop n table marks s known₀ count sum₀ k₀ known sum k =
+    (k ≤ count)
+    × (sum + sharesOf (s .0) (drop k (rows n table)) (drop k marks) ≡ sharesOf (s .0) (rows n table) marks)
+    × (sum ≤ k * 1085371516236)
+    × Known (s .0) known
 
 abbrev μ-loop : tie.MeasureT-loop
-μ-loop n table marks s count sum₀ k₀ sum k = count - k
+μ-loop n table marks s known₀ count sum₀ k₀ known sum k = count - k
 
--- src/sums.rt:45:17
 div-count : tie.Need-div-count Inv-loop μ-loop
 div-count c = search needs
 
--- src/sums.rt:48:5
 loop-holds : tie.Need-loop-holds Inv-loop μ-loop
-loop-holds c = search needs
+loop-holds c = (omega arith, omega arith, omega arith, known-none _)
 
--- src/sums.rt:49:32
+-- in the loop row k is one of the table's, and its byte has at most six marks
+in-table : (c : tie.In-loop Inv-loop μ-loop)
+    → c .before .loop .k < length (rows (c .before .before .before .before .args .n) (c .before .before .before .before .args .table .now))
+in-table c = let a = c .before .before .before .before .args in omega (arith, length-rows (a .n) (a .table .now))
+
+few : (c : tie.In-loop Inv-loop μ-loop) → ones (getD (c .before .before .before .before .args .marks .now) (c .before .loop .k) 0) ≤ 6
+few c = marks-few _ (c .before .before .before .before .pre .few (c .before .loop .k) (in-table c))
+
 shared-slice-read-m : tie.Need-shared-slice-read-m Inv-loop μ-loop
-shared-slice-read-m c =
-    let start = c .before .before .before .before .before in
-    let n = start .args .n in
-    let t = start .args .table .now in
-    let k = c .before .before .loop .k in
-    let l : k < length (rows n t) = omega (arith, length-rows n t) in
-    omega (arith, start .pre .marked)
+shared-slice-read-m c = omega (arith, in-table (c .before), c .before .before .before .before .before .pre .marked)
 
--- src/sums.rt:49:17
 cast-m : tie.Need-cast-m Inv-loop μ-loop
-cast-m c =
-    let start = c .before .before .before .before .before in
-    let n = start .args .n in
-    let t = start .args .table .now in
-    let k = c .before .before .loop .k in
-    let l : k < length (rows n t) = omega (arith, length-rows n t) in
-    omega (arith, marks-few _ (start .pre .few k l))
+cast-m c = omega (arith, few (c .before))
 
--- src/sums.rt:50:25
 row-degree-requires : tie.Need-row-degree-requires Inv-loop μ-loop
-row-degree-requires c κs =
-    let start = c .before .before .before .before .before in
-    let n = start .args .n in
-    let t = start .args .table .now in
-    let k = c .before .before .loop .k in
-    let l : k < length (rows n t) = omega (arith, length-rows n t) in
-    (start .pre .accepted .few, l)
+row-degree-requires c κs = (c .before .before .before .before .before .before .pre .accepted .few, in-table (c .before .before))
 
--- src/sums.rt:50:16
 share-requires : tie.Need-share-requires Inv-loop μ-loop
 share-requires c κs =
-    let start = c .before .before .before .before .before .before in
-    let n = start .args .n in
-    let t = start .args .table .now in
-    let k = c .before .before .before .loop .k in
-    let l : k < length (rows n t) = omega (arith, length-rows n t) in
-    (start .pre .low, marks-few _ (start .pre .few k l))
+    let start = c .before .before .before .before .before .before .before in
+    let loop = c .before .before .before .before .loop in
+    let small = degree-small (start .args .n) (start .args .table .now) (start .pre .accepted) (loop .k) (in-table (c .before .before .before)) in
+    (loop .inv .3, start .pre .low, omega (arith, c .row-degree .ensures), few (c .before .before .before))
 
--- src/sums.rt:50:9
+-- the share of row k is small, and the row one of at most 4,096
+small : (c : tie.After-share Inv-loop μ-loop) → c .share .result ≤ 1085371516236
+small c =
+    let start = c .before .before .before .before .before .before .before .before in
+    let d = c .before .row-degree .result .0 in
+    omega (arith, c .share .ensures .0, share-small (start .args .s .0) d _ (start .pre .low) (few (c .before .before .before .before)))
+
+counted : (c : tie.In-loop Inv-loop μ-loop) → c .before .loop .k < 4096
+counted c = omega (arith, in-table c, c .before .before .before .before .pre .accepted .limited)
+
 add-sum : tie.Need-add-sum Inv-loop μ-loop
-add-sum c =
-    let start = c .before .before .before .before .before .before .before in
-    let n = start .args .n in
-    let t = start .args .table .now in
-    let k = c .before .before .before .before .loop .k in
-    let l : k < length (rows n t) = omega (arith, length-rows n t) in
-    omega (arith, c .share .ensures, share-small _ (c .before .row-degree .result .0) _ (start .pre .low) (marks-few _ (start .pre .few k l)), start .pre .accepted .limited)
+add-sum c = omega (arith, small c, counted (c .before .before .before .before))
 
--- src/sums.rt:51:9
 add-k : tie.Need-add-k Inv-loop μ-loop
-add-k c =
-    let start = c .before .before .before .before .before .before .before in
-    let n = start .args .n in
-    let t = start .args .table .now in
-    let k = c .before .before .before .before .loop .k in
-    let l : k < length (rows n t) = omega (arith, length-rows n t) in
-    omega (arith, start .pre .accepted .limited)
+add-k c = omega (arith, counted (c .before .before .before .before))
 
--- src/sums.rt:48:5
 loop-less : tie.Need-loop-less Inv-loop μ-loop
 loop-less c = search needs
 
--- src/sums.rt:48:5
 loop-again : tie.Need-loop-again Inv-loop μ-loop
 loop-again c =
-    let start = c .before .before .before .before .before .before .before in
-    let n = start .args .n in
-    let t = start .args .table .now in
-    let k = c .before .before .before .before .loop .k in
-    let l : k < length (rows n t) = omega (arith, length-rows n t) in
+    let start = c .before .before .before .before .before .before .before .before in
+    let G = rows (start .args .n) (start .args .table .now) in
     let marks = start .args .marks .now in
     let s = start .args .s .0 in
-    let e : c .share .result ≡ share s (degree (rowAt (rows n t) k)) (ones (getD marks k 0)) = c .share .ensures ∙ ap (λ (d : ℕ). share s d (ones (getD marks k 0))) (c .before .row-degree .ensures) in
-    let g : share s (degree (rowAt (rows n t) k)) (ones (getD marks k 0)) ≤ 1085371516236 = share-small s _ _ (start .pre .low) (marks-few _ (start .pre .few k l)) in
-    (omega arith, omega (arith, shares-next s (rows n t) marks k l (omega (arith, start .pre .marked))), omega arith)
+    let k = c .before .before .before .before .before .loop .k in
+    let l = in-table (c .before .before .before .before) in
+    let e : c .share .result ≡ share s (degree (rowAt G k)) (ones (getD marks k 0)) =
+    c .share .ensures .0 ∙ ap (λ (d : ℕ). share s d (ones (getD marks k 0))) (c .before .row-degree .ensures) in
+    (omega arith, omega (arith, shares-next s G marks k l (omega (arith, start .pre .marked))), omega (arith, small c), c .share .ensures .1)
 
--- src/sums.rt:41:1
 returns : tie.Need-returns Inv-loop μ-loop
 returns c =
-    let start = c .before .before .before .before in
-    let n = start .args .n in
-    let t = start .args .table .now in
-    omega (arith, shares-done (start .args .s .0) (rows n t) (start .args .marks .now) (c .before .loop .k) (omega (arith, length-rows n t)))
+    let a = c .before .before .before .before .args in
+    let G = rows (a .n) (a .table .now) in
+    omega (arith, shares-done (a .s .0) G (a .marks .now) (c .before .loop .k) (omega (arith, length-rows (a .n) (a .table .now))))
 
 pub shares-spec : {M : Type 1} → statement M
 shares-spec =

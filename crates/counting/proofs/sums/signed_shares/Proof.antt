@@ -1,143 +1,106 @@
-use Rattle.terms.specs.Monomials.{Table, rowAt, degree}
+-- `counting::sums::signed_shares` meets its contract. The invariant: what counts for the shares so far less what counts against them, and
+-- the shares of the rows from k on, make the whole; neither part exceeds k times the largest binomial; what is
+-- known is right.
+use mathlib.Core.Path.{_≡_, sym, ap, _∙_}
+use Prim.Native.Nat.{ℕ, _*_, _-_, _≤_, _<_}
+use native.Mathlib.Omega.{arith}
+use borrow.Author.Needs.{needs}
+use lib.Count.{ones}
+use lib.ListN.{length, drop, getD}
+use lib.IntN.{pos, _+ℤ_, _-ℤ_, +ℤ-idl, +ℤ-idr}
+use Rattle.terms.specs.Monomials.{rowAt, degree}
 use Rattle.terms.specs.Rows.{rows}
 use Rattle.terms.proofs.RowsLaws.{length-rows}
-use Rattle.counting.specs.Counts.{share, signedShare, steadyOf}
-use Rattle.counting.specs.Sums.{sharesOf, signedSharesOf, Summable, Splits}
-use lib.Count.{ones}
-use lib.IntN.{ℤ, pos, _+ℤ_, _-ℤ_, +ℤ-idl, +ℤ-idr}
-use Rattle.counting.proofs.PassLaws.{marks-few, degree-small, signed-next, signed-done, splits-add}
-use borrow.Author.Needs.{needs}
-use native.Mathlib.Omega.{arith}
-use borrow.Author.Tests.{le-ltb, lt-ltb, le-leb, lt-leb, eq-eqb, ne-eqb, ltb-true, ltb-false, leb-true, leb-false, eqb-true, eqb-false}
-use mathlib.Core.Path.{_≡_, refl, sym, ap, _∙_}
-use mathlib.Core.Logic.{⊎-elim}
-use mathlib.Core.List.{List, [], _∷_, _++_}
-use mathlib.Core.Bool.{Bool, true, false}
-use Prim.Native.Nat.{ℕ, zero, suc, _+_, _*_, _-_, _/_, _%_, _≤_, _<_}
-use lib.ListN.{length, take, drop, getD, set, replicate}
-use denote.Ref.{now}
+use Rattle.counting.specs.Counts.{signedShare}
+use Rattle.counting.specs.Sums.{signedSharesOf, Known}
+use Rattle.counting.proofs.PassLaws.{degree-small, known-none, marks-few, signed-next, signed-done, splits-add}
 use Rattle.counting.proofs.sums.signed_shares.Statement.{statement}
 use Rattle.counting.proofs.sums.signed_shares.Tie as tie
-use Rattle.counting.proofs.sums.signed_shares.Reads as reads
-use Rattle.counting.proofs.sums.signed_shares.Lts as lts
-use Rattle.counting.proofs.sums.row_degree.Reads as row-degree-reads
-use Rattle.counting.proofs.sums.signed_share.Reads as signed-share-reads
 
 abbrev Inv-loop : tie.InvT-loop
-Inv-loop n table marks s count plus₀ minus₀ k₀ plus minus k = (k ≤ count) × ((pos plus -ℤ pos minus) +ℤ signedSharesOf (s .0) (drop k (rows n table)) (drop k marks) ≡ signedSharesOf (s .0) (rows n table) marks) × (plus ≤ k * 1085371516236) × (minus ≤ k * 1085371516236)
+Inv-loop n table marks s known₀ count plus₀ minus₀ k₀ known plus minus k =
+    (k ≤ count)
+    × ((pos plus -ℤ pos minus) +ℤ signedSharesOf (s .0) (drop k (rows n table)) (drop k marks) ≡ signedSharesOf (s .0) (rows n table) marks)
+    × (plus ≤ k * 1085371516236)
+    × (minus ≤ k * 1085371516236)
+    × Known (s .0) known
 
 abbrev μ-loop : tie.MeasureT-loop
-μ-loop n table marks s count plus₀ minus₀ k₀ plus minus k = count - k
+μ-loop n table marks s known₀ count plus₀ minus₀ k₀ known plus minus k = count - k
 
--- src/sums.rt:87:17
 div-count : tie.Need-div-count Inv-loop μ-loop
 div-count c = search needs
 
--- src/sums.rt:91:5
 loop-holds : tie.Need-loop-holds Inv-loop μ-loop
-loop-holds c = (omega arith, +ℤ-idl _, omega arith, omega arith)
+loop-holds c = (omega arith, +ℤ-idl _, omega arith, omega arith, known-none _)
 
--- src/sums.rt:92:32
+-- in the loop row k is one of the table's, and its byte has at most six marks
+in-table : (c : tie.In-loop Inv-loop μ-loop)
+    → c .before .loop .k < length (rows (c .before .before .before .before .args .n) (c .before .before .before .before .args .table .now))
+in-table c = let a = c .before .before .before .before .args in omega (arith, length-rows (a .n) (a .table .now))
+
+few : (c : tie.In-loop Inv-loop μ-loop) → ones (getD (c .before .before .before .before .args .marks .now) (c .before .loop .k) 0) ≤ 6
+few c = marks-few _ (c .before .before .before .before .pre .few (c .before .loop .k) (in-table c))
+
 shared-slice-read-m : tie.Need-shared-slice-read-m Inv-loop μ-loop
-shared-slice-read-m c =
-    let start = c .before .before .before .before .before in
-    let n = start .args .n in
-    let t = start .args .table .now in
-    let k = c .before .before .loop .k in
-    let l : k < length (rows n t) = omega (arith, length-rows n t) in
-    omega (arith, start .pre .marked)
+shared-slice-read-m c = omega (arith, in-table (c .before), c .before .before .before .before .before .pre .marked)
 
--- src/sums.rt:92:17
 cast-m : tie.Need-cast-m Inv-loop μ-loop
-cast-m c =
-    let start = c .before .before .before .before .before in
-    let n = start .args .n in
-    let t = start .args .table .now in
-    let k = c .before .before .loop .k in
-    let l : k < length (rows n t) = omega (arith, length-rows n t) in
-    omega (arith, marks-few _ (start .pre .few k l))
+cast-m c = omega (arith, few (c .before))
 
--- src/sums.rt:93:35
 row-degree-requires : tie.Need-row-degree-requires Inv-loop μ-loop
-row-degree-requires c κs =
-    let start = c .before .before .before .before .before in
-    let n = start .args .n in
-    let t = start .args .table .now in
-    let k = c .before .before .loop .k in
-    let l : k < length (rows n t) = omega (arith, length-rows n t) in
-    (start .pre .accepted .few, l)
+row-degree-requires c κs = (c .before .before .before .before .before .before .pre .accepted .few, in-table (c .before .before))
 
--- src/sums.rt:93:13
 signed-share-requires : tie.Need-signed-share-requires Inv-loop μ-loop
 signed-share-requires c κs =
-    let start = c .before .before .before .before .before .before in
-    let n = start .args .n in
-    let t = start .args .table .now in
-    let k = c .before .before .before .loop .k in
-    let l : k < length (rows n t) = omega (arith, length-rows n t) in
-    (start .pre .low, omega (arith, c .row-degree .ensures, degree-small n t (start .pre .accepted) k l), marks-few _ (start .pre .few k l))
+    let start = c .before .before .before .before .before .before .before in
+    let loop = c .before .before .before .before .loop in
+    let small = degree-small (start .args .n) (start .args .table .now) (start .pre .accepted) (loop .k) (in-table (c .before .before .before)) in
+    (loop .inv .4, start .pre .low, omega (arith, c .row-degree .ensures), few (c .before .before .before))
 
--- src/sums.rt:94:9
+-- the row is one of at most 4,096
+counted : (c : tie.In-loop Inv-loop μ-loop) → c .before .loop .k < 4096
+counted c = omega (arith, in-table c, c .before .before .before .before .pre .accepted .limited)
+
 add-plus : tie.Need-add-plus Inv-loop μ-loop
-add-plus c =
-    let start = c .before .before .before .before .before .before .before .before in
-    let n = start .args .n in
-    let t = start .args .table .now in
-    let k = c .before .before .before .before .before .loop .k in
-    let l : k < length (rows n t) = omega (arith, length-rows n t) in
-    omega (arith, c .before .signed-share .ensures .plus-small, start .pre .accepted .limited)
+add-plus c = omega (arith, c .before .signed-share .ensures .0 .plus-small, counted (c .before .before .before .before .before))
 
--- src/sums.rt:95:9
 add-minus : tie.Need-add-minus Inv-loop μ-loop
-add-minus c =
-    let start = c .before .before .before .before .before .before .before .before .before in
-    let n = start .args .n in
-    let t = start .args .table .now in
-    let k = c .before .before .before .before .before .before .loop .k in
-    let l : k < length (rows n t) = omega (arith, length-rows n t) in
-    omega (arith, c .before .before .signed-share .ensures .minus-small, start .pre .accepted .limited)
+add-minus c = omega (arith, c .before .before .signed-share .ensures .0 .minus-small, counted (c .before .before .before .before .before .before))
 
--- src/sums.rt:96:9
 add-k : tie.Need-add-k Inv-loop μ-loop
-add-k c =
-    let start = c .before .before .before .before .before .before .before .before .before in
-    let n = start .args .n in
-    let t = start .args .table .now in
-    let k = c .before .before .before .before .before .before .loop .k in
-    let l : k < length (rows n t) = omega (arith, length-rows n t) in
-    omega (arith, start .pre .accepted .limited)
+add-k c = omega (arith, counted (c .before .before .before .before .before .before))
 
--- src/sums.rt:91:5
 loop-less : tie.Need-loop-less Inv-loop μ-loop
 loop-less c = search needs
 
--- src/sums.rt:91:5
 loop-again : tie.Need-loop-again Inv-loop μ-loop
 loop-again c =
-    let start = c .before .before .before .before .before .before .before .before .before in
-    let n = start .args .n in
-    let t = start .args .table .now in
-    let k = c .before .before .before .before .before .before .loop .k in
-    let l : k < length (rows n t) = omega (arith, length-rows n t) in
+    let start = c .before .before .before .before .before .before .before .before .before .before in
+    let G = rows (start .args .n) (start .args .table .now) in
     let marks = start .args .marks .now in
     let s = start .args .s .0 in
-    let before = c .before .before .before .before .before .before .loop in
+    let before = c .before .before .before .before .before .before .before .loop in
+    let k = before .k in
     let one = c .before .before .signed-share .result in
-    let e : pos (one .plus) -ℤ pos (one .minus) ≡ signedShare s (degree (rowAt (rows n t) k)) (ones (getD marks k 0)) = c .before .before .signed-share .ensures .difference ∙ ap (λ (d : ℕ). signedShare s d (ones (getD marks k 0))) (c .before .before .before .row-degree .ensures) in
-    let f = signed-next s (rows n t) marks k l (omega (arith, start .pre .marked)) in
-    (omega arith,
-    splits-add (before .plus) (before .minus) (one .plus) (one .minus) _ _ _ (rw f at (before .inv .1)) e,
-    omega (arith, c .before .before .signed-share .ensures .plus-small),
-    omega (arith, c .before .before .signed-share .ensures .minus-small))
+    let given = c .before .before .signed-share .ensures .0 in
+    let e : pos (one .plus) -ℤ pos (one .minus) ≡ signedShare s (degree (rowAt G k)) (ones (getD marks k 0)) =
+    given .difference ∙ ap (λ (d : ℕ). signedShare s d (ones (getD marks k 0))) (c .before .before .before .row-degree .ensures) in
+    let l = in-table (c .before .before .before .before .before .before) in
+    let f = signed-next s G marks k l (omega (arith, start .pre .marked)) in (
+      omega arith,
+      splits-add (before .plus) (before .minus) (one .plus) (one .minus) _ _ _ (rw f at (before .inv .1)) e,
+      omega (arith, given .plus-small),
+      omega (arith, given .minus-small),
+      c .before .before .signed-share .ensures .1,
+    )
 
--- src/sums.rt:83:1
 returns : tie.Need-returns Inv-loop μ-loop
 returns c =
-    let start = c .before .before .before .before in
-    let n = start .args .n in
-    let t = start .args .table .now in
-    let e : c .before .loop .k ≡ length (rows n t) = omega (arith, length-rows n t) in
-    let done = signed-done (start .args .s .0) (rows n t) (start .args .marks .now) (c .before .loop .k) (omega arith) in
+    let a = c .before .before .before .before .args in
+    let G = rows (a .n) (a .table .now) in
+    let e : c .before .loop .k ≡ length G = omega (arith, length-rows (a .n) (a .table .now)) in
+    let done = signed-done (a .s .0) G (a .marks .now) (c .before .loop .k) (omega arith) in
     record {
       difference = sym (+ℤ-idr _) ∙ rw done at (c .before .loop .inv .1);
       plus-small = omega arith;

@@ -1,18 +1,22 @@
--- All marks are one less than the power of two behind them.
+-- One, shifted by the number of variables, is that power of two.
 use native.Mathlib.Omega.{arith}
 use borrow.Author.Needs.{needs}
+use Rattle.division.proofs.SuccessorLaws.{all-shifted}
 use lib.Pow.{pow-pos}
 use Rattle.division.proofs.successor.marks_last.Statement.{statement}
 use Rattle.division.proofs.successor.marks_last.Tie as tie
 
-power-requires : tie.Need-power-requires
-power-requires c κs = search needs
+cast-result : tie.Need-cast-result
+cast-result c = search needs
+
+shl-result : tie.Need-shl-result
+shl-result c = search needs
 
 sub-result : tie.Need-sub-result
-sub-result c = omega (arith, pow-pos (c .before .args .n), c .power .ensures)
+sub-result c = omega (arith, all-shifted (c .args .n) (c .pre), pow-pos (c .args .n))
 
 returns : tie.Need-returns
-returns c = omega (arith, pow-pos (c .before .args .n), c .power .ensures)
+returns c = omega (arith, all-shifted (c .args .n) (c .pre), pow-pos (c .args .n))
 
 pub marks-last-spec : {M : Type 1} → statement M
-marks-last-spec = tie.close (tie.spec power-requires sub-result returns)
+marks-last-spec = tie.close (tie.spec cast-result shl-result sub-result returns)

@@ -1,0 +1,76 @@
+-- What the inner functions of `complete` promise, over plain lists of bytes.
+--
+--   part n k from bytes  k rows of n bytes each, from byte `from` on
+--   copies k b j S       the rows of S with exponent b at place k, then b + 1, .. : j times
+--   space m              the bytes that a row of m exponents and its tails take
+--   Appended             what `level` does: the completed table behind a front, at the end of what is written
+--   Standing             the code's walk after the heads below a is the model's
+--   Stepped              what `step` does: the walk goes on by one head
+--   Roomy                sizes that fit, and room in both arrays
+--   Collects, Collected  what `collect` asks and does: the completed table of a table, from the front of an array on
+use mathlib.Core.Path.{_≡_}
+use mathlib.Core.List.{List, [], _∷_, _++_, map}
+use Prim.Native.Nat.{ℕ, zero, suc, _+_, _*_, _-_, _≤_, _<_}
+use lib.ListN.{length, take, drop, set}
+use Rattle.terms.specs.Monomials.{Monomial, Table}
+use Rattle.terms.specs.Rows.{firstRows, flat}
+use Rattle.completion.specs.Slices.{Walk, walk, slices, after, fit}
+use Rattle.completion.specs.Operation.{completedOf}
+use Rattle.completion.specs.declared.Progress.{Progress}
+
+abbrev pub part : ℕ → ℕ → ℕ → List ℕ → Table
+part n k from bytes = firstRows n k (drop from bytes)
+
+unfoldable pub copies : ℕ → ℕ → ℕ → Table → Table
+copies k b zero S = []
+copies k b (suc j) S = copies k b j S ++ map (λ u. set u k (b + j)) S
+
+unfoldable pub space : ℕ → ℕ
+space zero = 0
+space (suc m) = suc m + space m
+
+-- Behind the first exponents of a head, the completed table of the table at the front of work; the table stays. What stands in out once the room is
+-- passed is left open.
+pub record Appended (n rest rows : ℕ) (head work out : List ℕ) (room at r : ℕ) (work' out' : List ℕ) : Type 0 where
+  pub end : r ≡ fit room (at + length (slices (suc rest) (firstRows (suc rest) rows work)))
+  pub written : r ≤ room → take (r * n) out' ≡ take (at * n) out ++ flat (after (take (n - suc rest) head) (slices (suc rest) (firstRows (suc rest) rows work)))
+  pub kept : take (rows * suc rest) work' ≡ take (rows * suc rest) work
+
+-- T is the table, P what was written before its first row, at row `start`.
+pub record Standing (T : Table) (start : ℕ) (P : List ℕ) (n rest rows : ℕ) (head : List ℕ) (room a : ℕ) (work out : List ℕ) (w : Progress) : Type 0 where
+  pub table : firstRows (suc rest) rows work ≡ T
+  pub last : w .last ≡ walk (λ H. slices rest H) T a .last
+  pub generators : part rest (w .generators) (rows * suc rest) work ≡ walk (λ H. slices rest H) T a .generators
+  pub block : w .from + length (walk (λ H. slices rest H) T a .block) ≡ w .end
+  pub before : length P ≡ start * n
+  pub end : w .end ≡ start + length (walk (λ H. slices rest H) T a .written)
+  pub within : w .end ≤ room
+  pub written : take (w .end * n) out ≡ P ++ flat (after (take (n - suc rest) head) (walk (λ H. slices rest H) T a .written))
+
+pub record Stepped (T : Table) (start : ℕ) (P : List ℕ) (n rest rows : ℕ) (head : List ℕ) (room a : ℕ) (work : List ℕ) (r : Progress) (work' out' : List ℕ) : Type 0 where
+  pub kept : take (rows * suc rest) work' ≡ take (rows * suc rest) work
+  pub end : r .end ≡ fit room (start + length (walk (λ H. slices rest H) T (suc a) .written))
+  pub on : r .end ≤ room → Standing T start P n rest rows head room (suc a) work' out' r
+
+-- what level and step may count on: sizes that fit, and room in both arrays
+pub record Roomy (n rest rows : ℕ) (work out : List ℕ) (room at : ℕ) : Type 0 where
+  pub variables : suc rest ≤ n
+  pub six : n ≤ 6
+  pub wide : rows * space (suc rest) ≤ length work
+  pub many : rows ≤ 4096
+  pub holds : room * n ≤ length out
+  pub most : room ≤ 4096
+  pub starts : at ≤ room
+
+-- a table that no check refused, and an array for its completed rows
+pub record Collects (n : ℕ) (table : List ℕ) (rows : ℕ) (out : List ℕ) (room : ℕ) : Type 0 where
+  pub some : 0 < n
+  pub few : n ≤ 6
+  pub whole : length table ≡ rows * n
+  pub limited : rows ≤ 4096
+  pub holds : room * n ≤ length out
+  pub most : room ≤ 4096
+
+pub record Collected (n : ℕ) (table : List ℕ) (room r : ℕ) (out : List ℕ) : Type 0 where
+  pub end : r ≡ fit room (length (completedOf n table))
+  pub written : r ≤ room → take (r * n) out ≡ flat (completedOf n table)

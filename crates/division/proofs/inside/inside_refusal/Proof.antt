@@ -1,0 +1,31 @@
+-- Each return gives the first check that refuses.
+use native.Mathlib.Omega.{arith}
+use mathlib.Core.Path.{sym, _∙_}
+use Prim.Native.Nat.{_-_}
+use denote.Ref.{now}
+use borrow.Author.Needs.{needs}
+use Rattle.division.proofs.InsideLaws.{refuses-table, refuses-length, refuses-none}
+use Rattle.division.proofs.inside.inside_refusal.Statement.{statement}
+use Rattle.division.proofs.inside.inside_refusal.Tie as tie
+
+table-refusal-requires : tie.Need-table-refusal-requires
+table-refusal-requires c κs = search needs
+
+returns : tie.Need-returns
+returns c =
+    let a = c .before .before .before .before .args in
+    let e = c .before .table-refusal .ensures in
+    e ∙ refuses-table (a .n) (a .table .now) (a .query .now) (omega (arith, e, c .if1 .taken))
+
+returns-2 : tie.Need-returns-2
+returns-2 c =
+    let a = c .before .before .before .before .before .args in
+    refuses-length (a .n) (a .table .now) (a .query .now) (sym (c .before .before .table-refusal .ensures) ∙ c .before .if1 .left) (c .if2 .taken)
+
+returns-3 : tie.Need-returns-3
+returns-3 c =
+    let a = c .before .before .before .before .before .args in
+    refuses-none (a .n) (a .table .now) (a .query .now) (sym (c .before .before .table-refusal .ensures) ∙ c .before .if1 .left) (c .if2 .left)
+
+pub inside-refusal-spec : {M : Type 1} → statement M
+inside-refusal-spec = tie.close (tie.spec table-refusal-requires returns returns-2 returns-3)

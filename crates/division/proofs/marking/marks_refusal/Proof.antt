@@ -1,0 +1,42 @@
+-- Each return gives the first check that refuses.
+use native.Mathlib.Omega.{arith}
+use mathlib.Core.Path.{sym, _∙_}
+use Prim.Native.Nat.{_-_}
+use denote.Ref.{now}
+use borrow.Author.Needs.{needs}
+use Rattle.terms.specs.Refusals.{tableChecks}
+use Rattle.terms.proofs.RefusalLaws.{accepted, table-accepted}
+use Rattle.terms.proofs.RowsLaws.{length-rows}
+use Rattle.division.proofs.MarkingLaws.{refuses-table, refuses-buffer, refuses-none}
+use Rattle.division.proofs.marking.marks_refusal.Statement.{statement}
+use Rattle.division.proofs.marking.marks_refusal.Tie as tie
+
+table-refusal-requires : tie.Need-table-refusal-requires
+table-refusal-requires c κs = search needs
+
+returns : tie.Need-returns
+returns c =
+    let a = c .before .before .before .args in
+    let e = c .before .table-refusal .ensures in
+    e ∙ refuses-table (a .n) (a .table .now) (a .size) (omega (arith, e, c .if1 .taken))
+
+div-if2 : tie.Need-div-if2
+div-if2 c =
+    let a = c .before .before .before .args in
+    table-accepted (a .n) (a .table .now) (accepted (tableChecks (a .n) (a .table .now)) (sym (c .before .table-refusal .ensures) ∙ c .if1 .left)) .some
+
+returns-2 : tie.Need-returns-2
+returns-2 c =
+    let a = c .before .before .before .before .args in
+    let z = length-rows (a .n) (a .table .now) in
+    refuses-buffer (a .n) (a .table .now) (a .size) (sym (c .before .before .table-refusal .ensures) ∙ c .before .if1 .left) (omega (arith, c .if2 .taken))
+
+returns-3 : tie.Need-returns-3
+returns-3 c =
+    let a = c .before .before .before .before .args in
+    let z = length-rows (a .n) (a .table .now) in
+    refuses-none (a .n) (a .table .now) (a .size) (sym (c .before .before .table-refusal .ensures) ∙ c .before .if1 .left) (omega (arith, c .if2 .left))
+
+pub marks-refusal-spec : {M : Type 1} → statement M
+marks-refusal-spec =
+    tie.close (tie.spec table-refusal-requires returns div-if2 returns-2 returns-3)

@@ -1,0 +1,84 @@
+// Inside (rule 1): the first given row that divides a query.
+use crate::finding::Found;
+use terms::Row;
+use terms::RowNumber;
+use terms::row_at;
+use terms::table_refusal;
+ghost use mathlib.Core.Path.{_≡_};
+ghost use Prim.Native.Nat.{_≤_, _<_};
+ghost use lib.ListN.{length};
+ghost use Rattle.terms.specs.Monomials.{rowAt};
+ghost use Rattle.terms.specs.Rows.{rows};
+ghost use Rattle.terms.specs.Ideal.{dividesTest};
+ghost use Rattle.terms.specs.Refusals.{refusal};
+ghost use Rattle.division.specs.Ranges.{foundRow};
+ghost use Rattle.division.specs.Inside.{firstDivisor, insideChecks, InsidePromise};
+
+// The answer of `inside`: the first row that divides the query, that none does, or a refusal.
+pub enum InsideAnswer {
+    Row(RowNumber),
+    Nothing,
+    Refused(u8),
+}
+
+// Whether row k divides the query (rule 1).
+fn row_divides(table: &[u8], n: usize, k: RowNumber, query: Row) -> bool
+    requires { ⌜ (n ≤ 6) × (k .0 < length (rows n (now table))) ⌝ }
+    ensures { λ r. ⌜ r ≡ dividesTest (rowAt (rows n (now (table .entry))) (k .0)) (query .exponents) ⌝ }
+{
+    let number = k.0;
+    let base = number * n;
+    let mut i = 0;
+    while i < n {
+        if table[base + i] > query.exponents[i] {
+            return false;
+        }
+        i += 1;
+    }
+    true
+}
+
+// The first row that divides the query, or none, without the checks.
+pub fn first_divisor(n: usize, table: &[u8], query: Row) -> Found
+    requires { ⌜ (0 < n) × (n ≤ 6) × (length (rows n (now table)) ≤ 4096) ⌝ }
+    ensures { λ r. ⌜ r ≡ foundRow (firstDivisor (rows n (now (table .entry))) (query .exponents)) ⌝ }
+{
+    let count = table.len() / n;
+    let mut k = 0;
+    while k < count {
+        if row_divides(table, n, RowNumber(k), query) {
+            return Found::Row(RowNumber(k));
+        }
+        k += 1;
+    }
+    Found::Nothing
+}
+
+// The number of the first of the checks that refuses, 0 where none does.
+fn inside_refusal(n: usize, table: &[u8], query: &[u8]) -> u8
+    ensures { λ r. ⌜ r ≡ refusal (insideChecks n (now (table .entry)) (now (query .entry))) ⌝ }
+{
+    let refused = table_refusal(n, table);
+    if refused != 0 {
+        return refused;
+    }
+    if query.len() != n {
+        return 5;
+    }
+    0
+}
+
+// The first given row that divides the query, or none (rule 1).
+pub fn inside(n: usize, table: &[u8], query: &[u8]) -> InsideAnswer
+    ensures { λ r. ⌜ InsidePromise n (now (table .entry)) (now (query .entry)) r ⌝ }
+{
+    let refused = inside_refusal(n, table, query);
+    if refused != 0 {
+        return InsideAnswer::Refused(refused);
+    }
+    let found = first_divisor(n, table, row_at(query, n, RowNumber(0)));
+    match found {
+        Found::Row(row) => InsideAnswer::Row(row),
+        Found::Nothing => InsideAnswer::Nothing,
+    }
+}

@@ -1,0 +1,2 @@
+-- What the exported functions need: their answers fit 32 bits.
+pub mod Bounds

@@ -1,0 +1,44 @@
+-- The numbers are those of the answer that polynomial gave.
+use mathlib.Core.Path.{_≡_, sym, ap, _∙_}
+use borrow.Author.Needs.{needs}
+use mir.Val.{ofZ, toZ}
+use mir.Syntax.{w64}
+use Rattle.counting.specs.Operations.{polynomialNumber, polynomialValue}
+use Rattle.interface.proofs.rocaplanh_polynomial.Statement.{statement}
+use Rattle.interface.proofs.rocaplanh_polynomial.Tie as tie
+
+polynomial-requires : tie.Need-polynomial-requires
+polynomial-requires c κs = search needs
+
+enum-known-answer : tie.Need-enum-known-answer
+enum-known-answer c = search needs
+
+enum-known-answer-2 : tie.Need-enum-known-answer-2
+enum-known-answer-2 c = search needs
+
+cast-result : tie.Need-cast-result
+cast-result c = search needs
+
+returns : tie.Need-returns
+returns c =
+    let r = c .before .before .before .polynomial in
+    let e = c .before .answer .given .1 in
+    let t : toZ w64 (ofZ w64 (c .before .answer .given .0 .0)) ≡ c .before .answer .given .0 .0 = search needs in
+    record { answer = r .result; promise = r .ensures; returned = sym (ap polynomialNumber e); value-is = t ∙ sym (ap polynomialValue e) }
+
+returns-2 : tie.Need-returns-2
+returns-2 c =
+    let r = c .before .before .before .polynomial in
+    let e = c .before .answer2 .given .1 in
+    record { answer = r .result; promise = r .ensures; returned = sym (ap polynomialNumber e); value-is = sym (ap polynomialValue e) }
+
+pub rocaplanh-polynomial-spec : {M : Type 1} → statement M
+rocaplanh-polynomial-spec =
+    tie.close
+    (tie.spec
+    polynomial-requires
+    enum-known-answer
+    enum-known-answer-2
+    cast-result
+    returns
+    returns-2)

@@ -1,0 +1,24 @@
+-- The paper's starred examples hold: each is computed in the crate of its rule, and gathered here.
+--
+--   starred-examples
+use mathlib.Core.Path.{refl}
+use Rattle.division.specs.Descent.{descent}
+use Rattle.division.proofs.Examples as division
+use Rattle.completion.proofs.Examples as completion
+use Rattle.counting.proofs.Examples as counting
+use Rattle.paper.specs.Examples.{StarredExamples}
+
+pub starred-examples : StarredExamples
+unfolding descent
+starred-examples = record {
+  A = (completion.example-A-table, λ q. record { found = refl; steps = refl }, counting.example-A);
+  B = (completion.example-B-table, division.example-B-marks, counting.example-B);
+  C = (counting.example-C-count, counting.example-C-polynomial);
+  D = (completion.example-D-table, division.example-D-marks, counting.example-D .0, counting.example-D .2, counting.example-D .1);
+  E = completion.example-E-table;
+  F = (division.example-F-marks, division.example-F-open);
+  G = (record { found = refl; steps = refl }, record { found = refl; steps = refl });
+  H = (completion.example-H-table, refl);
+  I = completion.example-I-table;
+  J = (λ buffer answer after e p. completion.example-J-accepted buffer e p, λ buffer answer after e p. completion.example-J-refused buffer e p);
+}

@@ -1,0 +1,50 @@
+//! One count with all its checks: entries, order, completeness, then the sum over the cones.
+
+use crate::division::{ascending_marks, find_by_descent};
+use crate::packed::{ascends, entries_are_small};
+
+/// The number of monomials of degree at most s outside the ideal; nothing for a table that is not complete and ascending.
+pub fn count(n: usize, table: &[u8], s: usize) -> Option<u64> {
+    let mut marks = vec![0; table.len() / n];
+    if !is_valid(n, table) {
+        return None;
+    }
+    ascending_marks(n, table, &mut marks);
+    is_complete(n, table, &marks).then(|| cone_sum(n, table, &marks, s))
+}
+
+/// The checks that find makes too: entries at most 50, and rows that ascend strictly.
+pub fn is_valid(n: usize, table: &[u8]) -> bool {
+    entries_are_small(table) && ascends(n, table)
+}
+
+/// Each row times each variable without mark has a Janet divisor.
+fn is_complete(n: usize, table: &[u8], marks: &[u8]) -> bool {
+    let mut product = [0u8; 8];
+    table.chunks_exact(n).zip(marks).all(|(row, &mark)| {
+        (0..n).filter(|place| mark >> place & 1 == 0).all(|place| {
+            product[..n].copy_from_slice(row);
+            product[place] += 1;
+            find_by_descent(n, table, &product[..n]).0.is_some()
+        })
+    })
+}
+
+/// C(n + s, n) without the share of each cone that begins at degree s or below.
+fn cone_sum(n: usize, table: &[u8], marks: &[u8], s: usize) -> u64 {
+    let share = |(row, &mark): (&[u8], &u8)| {
+        let degree: usize = row.iter().map(|&e| usize::from(e)).sum();
+        let marked = mark.count_ones() as usize;
+        if degree > s {
+            0
+        } else {
+            binomial(s - degree + marked, marked)
+        }
+    };
+    binomial(n + s, n) - table.chunks_exact(n).zip(marks).map(share).sum::<u64>()
+}
+
+/// C(top, bottom) by its product; each partial product is itself a binomial.
+fn binomial(top: usize, bottom: usize) -> u64 {
+    (0..bottom as u64).fold(1, |value, k| value * (top as u64 - k) / (k + 1))
+}

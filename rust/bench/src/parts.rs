@@ -1,0 +1,244 @@
+//! The parts of the report. Before a job is timed its results are compared, so that only right programs are measured.
+
+use crate::measure::{hidden, keep, side_by_side, side_by_side_on_the_wall, Job};
+use crate::print::{head, line, time, Limit};
+use crate::tables::{ascending, bundle, completed_near, of_degree, powers, random, Numbers};
+use std::io::Write;
+use std::path::Path;
+use std::process::{Command, Stdio};
+
+/// Completion: the large tables, the same smaller, and small ones.
+pub fn completion() -> bool {
+    head("completion", &["packed", "slices", "second"]);
+    let mut kept = true;
+    for (n, degrees) in [(4, [16, 21, 27]), (6, [7, 8, 10]), (5, [9, 11, 14])] {
+        for degree in degrees {
+            kept &= one_completion(&format!("n={n}, all of degree {degree}"), n, &of_degree(n, degree));
+        }
+    }
+    for exponent in [25, 35, 50] {
+        kept &= one_completion(&format!("n=3, powers {exponent}"), 3, &powers(3, exponent));
+    }
+    for n in 3..=6 {
+        for rows in [1024, 2048, 4096] {
+            kept &= one_completion(&format!("n={n}, random rows"), n, &random(n, rows));
+        }
+    }
+    kept &= one_completion("n=4, powers 50 (refused by 8)", 4, &powers(4, 50));
+    kept &= one_completion("n=2, the listing", 2, &[2, 1, 0, 2]);
+    kept &= one_completion("n=3, example F", 3, &[0, 0, 2, 0, 1, 1, 0, 2, 0, 1, 0, 1, 3, 1, 0]);
+    kept & one_completion("n=4, small random", 4, &Numbers(1).bytes(40, 4))
+}
+
+fn one_completion(name: &str, n: usize, table: &[u8]) -> bool {
+    let mut rows = [vec![0; 4096 * n], vec![0; 4096 * n], vec![0; 4096 * n], vec![0; 4096 * n]];
+    let [ours, packed, slices, naive] = &mut rows;
+    let counts = [
+        rocaplanh::complete(n, table, ours).ok(),
+        baseline::completion::complete(n, table, packed),
+        baseline::slices::complete(n, table, slices),
+        second::operations::complete(n, table, naive).ok(),
+    ];
+    assert!(counts.iter().all(|count| *count == counts[0]) && ours == naive && packed == naive && slices == naive);
+    let mut jobs: Vec<Job> = vec![
+        Box::new(|| keep(rocaplanh::complete(n, hidden(table), ours))),
+        Box::new(|| keep(baseline::completion::complete(n, hidden(table), packed))),
+        Box::new(|| keep(baseline::slices::complete(n, hidden(table), slices))),
+        Box::new(|| keep(second::operations::complete(n, hidden(table), naive))),
+    ];
+    let times = side_by_side(&mut jobs);
+    let sizes = counts[0].map_or("refused".into(), |count| count.to_string());
+    line(&format!("{name}: {} to {sizes}", table.len() / n), &times, 1, Limit::Completion(6.0))
+}
+
+/// Find: 10,000 queries on tables of about 1,024, 2,048 and 4,096 rows.
+pub fn find() -> bool {
+    head("find, 10,000 queries", &["checked", "descent", "scan"]);
+    for n in [3, 4, 6] {
+        for (rows, largest) in [(1024, &[60][..]), (2048, &[60]), (4096, &[60, 255])] {
+            one_find(&format!("n={n}, random"), n, &ascending(n, rows), largest);
+        }
+    }
+    for n in [4, 6] {
+        one_find(&format!("n={n}, completed"), n, &completed_near(n, 4096), &[60, 255]);
+    }
+    println!("ours checks the table at each call; so does 'checked', while 'descent' and 'scan' do not");
+    true
+}
+
+fn one_find(name: &str, n: usize, table: &[u8], largest: &[usize]) {
+    let mut marks = vec![0; table.len() / n];
+    baseline::division::ascending_marks(n, table, &mut marks);
+    for most in largest {
+        let queries = Numbers(3).bytes(10_000 * n, most + 1);
+        compare_finds(n, table, &marks, &queries);
+        let each = |job: &dyn Fn(&[u8])| queries.chunks_exact(n).for_each(|query| job(hidden(query)));
+        let ours = |query: &[u8]| keep(rocaplanh::find(n, table, query));
+        let checked = |query: &[u8]| {
+            assert!(baseline::counting::is_valid(n, hidden(table)));
+            keep(baseline::division::find_by_descent(n, table, query));
+        };
+        let descent = |query: &[u8]| keep(baseline::division::find_by_descent(n, table, query));
+        let scan = |query: &[u8]| keep(baseline::division::find_by_scan(n, table, &marks, query));
+        let mut jobs: Vec<Job> = vec![
+            Box::new(|| each(&ours)),
+            Box::new(|| each(&checked)),
+            Box::new(|| each(&descent)),
+            Box::new(|| each(&scan)),
+            Box::new(|| (0..10_000).for_each(|_| ours(&[0; 6][..n]))),
+        ];
+        let times = side_by_side(&mut jobs);
+        line(&format!("{name}, {} rows, 0..{most}", table.len() / n), &times[..4], 2, Limit::None);
+        println!("    {}", without_checks(times[0], times[4], times[3]));
+    }
+}
+
+/// Our descent without its checks: what is left when the time of queries that end at once is taken away.
+fn without_checks(ours: f64, checks: f64, scan: f64) -> String {
+    let alone = ours - checks;
+    if alone < ours / 50.0 {
+        return format!(
+            "of ours the checks take {}, the descent too little to tell; the scan takes {}",
+            time(checks),
+            time(scan)
+        );
+    }
+    format!(
+        "of ours the checks take {}, the descent {}; the scan takes {:.1} times that",
+        time(checks),
+        time(alone),
+        scan / alone
+    )
+}
+
+fn compare_finds(n: usize, table: &[u8], marks: &[u8], queries: &[u8]) {
+    for query in queries.chunks_exact(n) {
+        let ours = rocaplanh::find(n, table, query).expect("the rows ascend");
+        assert_eq!((ours.row, ours.steps), baseline::division::find_by_descent(n, table, query));
+        assert_eq!(ours.row, baseline::division::find_by_scan(n, table, marks, query));
+    }
+}
+
+/// Marks of ascending and of unsorted rows. The plain program makes the same checks, or it would not know the order.
+pub fn marks() -> bool {
+    head("marks", &["plain", "second"]);
+    let mut kept = true;
+    for degree in [16, 21, 27] {
+        let table = of_degree(4, degree);
+        kept &= one_marks(&format!("n=4, ascending, {} rows", table.len() / 4), 4, &table, Limit::Times(5.0));
+    }
+    for (n, rows) in [(3, 4096), (6, 4096)] {
+        kept &= one_marks(&format!("n={n}, ascending random, {rows} rows"), n, &ascending(n, rows), Limit::Times(5.0));
+    }
+    for rows in [1024, 2048, 4096] {
+        let mut table: Vec<&[u8]> = Vec::new();
+        let sorted = ascending(4, rows);
+        table.extend(sorted.chunks_exact(4));
+        shuffle(&mut table);
+        kept &= unsorted_marks(&format!("n=4, unsorted, {rows} rows"), 4, &table.concat());
+    }
+    kept
+}
+
+fn shuffle(rows: &mut [&[u8]]) {
+    let mut numbers = Numbers(9);
+    for last in (1..rows.len()).rev() {
+        rows.swap(last, numbers.below(last + 1));
+    }
+}
+
+fn one_marks(name: &str, n: usize, table: &[u8], limit: Limit) -> bool {
+    let mut buffers = [vec![0; table.len() / n], vec![0; table.len() / n], vec![0; table.len() / n]];
+    let [ours, plain, naive] = &mut buffers;
+    let mut jobs: Vec<Job> = vec![
+        Box::new(|| rocaplanh::marks(n, hidden(table), ours).expect("a sound table")),
+        Box::new(|| {
+            assert!(baseline::counting::is_valid(n, hidden(table)));
+            baseline::division::ascending_marks(n, table, plain);
+        }),
+        Box::new(|| second::operations::marks(n, hidden(table), naive).expect("a sound table")),
+    ];
+    let times = side_by_side(&mut jobs);
+    drop(jobs);
+    assert!(buffers[0] == buffers[2] && buffers[1] == buffers[2]);
+    line(name, &times, 1, limit)
+}
+
+fn unsorted_marks(name: &str, n: usize, table: &[u8]) -> bool {
+    let mut buffers = [vec![0; table.len() / n], vec![0; table.len() / n], vec![0; table.len() / n]];
+    let [ours, plain, naive] = &mut buffers;
+    let mut jobs: Vec<Job> = vec![
+        Box::new(|| rocaplanh::marks(n, hidden(table), ours).expect("a sound table")),
+        Box::new(|| baseline::division::unsorted_marks(n, hidden(table), plain)),
+        Box::new(|| second::operations::marks(n, hidden(table), naive).expect("a sound table")),
+    ];
+    let times = side_by_side(&mut jobs);
+    drop(jobs);
+    assert!(buffers[0] == buffers[2] && buffers[1] == buffers[2]);
+    line(name, &times, 1, Limit::Seconds(0.05))
+}
+
+/// One count with all its checks.
+pub fn count() -> bool {
+    head("one count, checks included", &["plain", "second"]);
+    let mut kept = true;
+    for (n, degrees) in [(4, [16, 21, 27]), (6, [7, 8, 10])] {
+        for degree in degrees {
+            let table = of_degree(n, degree);
+            let rows = table.len() / n;
+            assert_eq!(rocaplanh::count(n, &table, 300).ok(), baseline::counting::count(n, &table, 300));
+            let mut jobs: Vec<Job> = vec![
+                Box::new(|| keep(rocaplanh::count(n, hidden(&table), 300))),
+                Box::new(|| keep(baseline::counting::count(n, hidden(&table), 300))),
+                Box::new(|| keep(second::operations::count(n, hidden(&table), 300))),
+            ];
+            let times = side_by_side(&mut jobs);
+            kept &= line(&format!("n={n}, {rows} rows, s = 300"), &times, 1, Limit::Times(20.0));
+        }
+    }
+    kept
+}
+
+/// Opening the last table of a bundle.
+pub fn open() -> bool {
+    head("open the last of 16 tables", &["plain", "second"]);
+    for bytes in [16_384, 32_768, 65_535] {
+        let bytes = bundle(3, bytes, 51);
+        let ours = rocaplanh::open(&bytes, 15).expect("a sound bundle");
+        assert_eq!(Some((ours.n, ours.body)), baseline::bundle::open(&bytes, 15));
+        let mut jobs: Vec<Job> = vec![
+            Box::new(|| keep(rocaplanh::open(hidden(&bytes), 15))),
+            Box::new(|| keep(baseline::bundle::open(hidden(&bytes), 15))),
+            Box::new(|| keep(second::bundle::open(hidden(&bytes), 15))),
+        ];
+        let times = side_by_side(&mut jobs);
+        line(&format!("{} bytes", bytes.len()), &times, 1, Limit::None);
+    }
+    true
+}
+
+/// The program `janet` whole, with the start of a process, beside the programs `baseline` and `second`.
+pub fn janet(programs: [&Path; 3]) -> bool {
+    head("janet, whole runs", &["plain", "second"]);
+    let mut kept = true;
+    let listing: &[u8] = &[2, 1, 2, 0, 6, 0, 2, 1, 0, 2];
+    let others = [16_384, 32_768, 65_535].map(|bytes| ("16 tables", bundle(3, bytes, 51)));
+    let small = [("16 tables, n=4, entries to 20", bundle(4, 600, 21))];
+    for (name, bytes) in [("the listing", listing.to_vec())].into_iter().chain(small).chain(others) {
+        let written = programs.map(|program| run(program, &bytes));
+        assert!(written.iter().all(|text| *text == written[0]), "the programs write different listings");
+        let mut jobs: Vec<Job> =
+            programs.iter().map(|program| Box::new(|| drop(run(program, &bytes))) as Job).collect();
+        let times = side_by_side_on_the_wall(&mut jobs);
+        let name = format!("{name}, {} to {} bytes", bytes.len(), written[0].len());
+        kept &= line(&name, &times, 1, Limit::Seconds(1.0));
+    }
+    kept
+}
+
+/// What a program writes for a bundle; the programs read all before they write.
+fn run(program: &Path, bundle: &[u8]) -> Vec<u8> {
+    let mut child = Command::new(program).stdin(Stdio::piped()).stdout(Stdio::piped()).spawn().expect("it can be run");
+    child.stdin.take().expect("standard input is piped").write_all(bundle).expect("it reads its input");
+    child.wait_with_output().expect("it ends").stdout
+}

@@ -1,0 +1,184 @@
+//! Random tables: short and long, in order or not, with equal rows, complete, nearly complete.
+//!
+//! - `short`: a few random rows. `ascending`: the same in order, once each.
+//! - `complete`: the completed table of a few random rows. `nearly_complete`: one with a small change.
+//! - `long`: up to 4,096 rows. `growing`: a few rows whose completion is large.
+//! - `damage`: a table and n with faults that the refusals name.
+
+use crate::random::Random;
+use second::completion::completed;
+use second::operations::{checked_rows, MOST_ROWS};
+
+/// A number of variables and a table's bytes.
+#[derive(Clone, Debug)]
+pub struct Table {
+    /// The number of variables.
+    pub n: usize,
+    /// The rows end to end.
+    pub bytes: Vec<u8>,
+}
+
+impl Table {
+    /// The number of whole rows; 0 for a damaged n of 0.
+    pub fn rows(&self) -> usize {
+        self.bytes.len().checked_div(self.n).unwrap_or(0)
+    }
+
+    /// The bytes of a row.
+    pub fn row(&self, row: usize) -> &[u8] {
+        &self.bytes[row * self.n..(row + 1) * self.n]
+    }
+}
+
+/// The largest entry of a short table: mostly small, so that most completions have tens of rows and not thousands.
+fn largest_entry(random: &mut Random, n: usize) -> u8 {
+    let usual = [50, 20, 8, 5, 4, 3][n - 1];
+    match random.below(12) {
+        0 => 50,
+        1 | 2 => 1,
+        3..=5 => 2,
+        _ => usual,
+    }
+}
+
+/// Rows with entries up to `largest`.
+fn rows(random: &mut Random, n: usize, count: usize, largest: u8) -> Table {
+    Table { n, bytes: (0..n * count).map(|_| random.byte(largest)).collect() }
+}
+
+/// A few random rows, sometimes with equal ones, sometimes with boundary entries.
+pub fn short(random: &mut Random, n: usize) -> Table {
+    let largest = largest_entry(random, n);
+    let most = if largest == 50 && n > 2 { 3 } else { 10 };
+    let count = random.between(0, most);
+    let mut table = rows(random, n, count, largest);
+    if count > 0 && random.once_in(5) {
+        let repeated = table.row(random.below(count)).to_vec();
+        table.bytes.extend(repeated);
+    }
+    if count > 0 && random.once_in(12) {
+        let at = random.below(table.bytes.len());
+        table.bytes[at] = 50;
+    }
+    table
+}
+
+/// The rows in ascending order, once each.
+pub fn in_order(table: &Table) -> Table {
+    let mut rows: Vec<&[u8]> = table.bytes.chunks(table.n).collect();
+    rows.sort();
+    rows.dedup();
+    Table { n: table.n, bytes: rows.concat() }
+}
+
+/// The completed table of another; empty where it does not fit.
+pub fn completion(table: &Table) -> Table {
+    let rows = checked_rows(table.n, &table.bytes).expect("the table is valid");
+    let full = completed(table.n, &rows, MOST_ROWS).unwrap_or_default();
+    Table { n: table.n, bytes: full.iter().flat_map(|row| row[..table.n].to_vec()).collect() }
+}
+
+/// The completed table of a few random rows.
+pub fn complete(random: &mut Random, n: usize) -> Table {
+    completion(&short(random, n))
+}
+
+/// A complete table with one small change, so that it is often no longer complete or no longer in order.
+pub fn nearly(random: &mut Random, complete: &Table) -> Table {
+    let mut table = complete.clone();
+    let (n, count) = (table.n, table.rows());
+    if count == 0 {
+        return table;
+    }
+    let row = random.below(count);
+    match random.below(6) {
+        0 | 1 => drop(table.bytes.drain(row * n..(row + 1) * n)),
+        2 => raise(&mut table, row, random.below(n)),
+        3 => repeat_row(&mut table, row),
+        4 => swap_rows(&mut table, row, random.below(count)),
+        _ => table = with_row(random, &table),
+    }
+    table
+}
+
+/// One entry larger by one.
+fn raise(table: &mut Table, row: usize, place: usize) {
+    let entry = &mut table.bytes[row * table.n + place];
+    *entry = 50.min(*entry + 1);
+}
+
+/// A row twice, one behind the other.
+fn repeat_row(table: &mut Table, row: usize) {
+    let repeated = table.row(row).to_vec();
+    let behind = (row + 1) * table.n;
+    table.bytes.splice(behind..behind, repeated);
+}
+
+/// Two rows exchanged.
+fn swap_rows(table: &mut Table, one: usize, other: usize) {
+    for place in 0..table.n {
+        table.bytes.swap(one * table.n + place, other * table.n + place);
+    }
+}
+
+/// The table in order with one row more that one of its rows divides.
+fn with_row(random: &mut Random, table: &Table) -> Table {
+    let mut more = table.clone();
+    let row: Vec<u8> = table.row(random.below(table.rows())).iter().map(|e| 50.min(e + random.byte(2))).collect();
+    more.bytes.extend(row);
+    in_order(&more)
+}
+
+/// A long table: thousands of random rows, or exactly 4,096.
+pub fn long(random: &mut Random, n: usize) -> Table {
+    let count = if random.once_in(3) { MOST_ROWS } else { random.between(200, MOST_ROWS) };
+    let largest = random.pick(&[1, 3, 10, 50]);
+    rows(random, n, count, largest)
+}
+
+/// A few rows whose completion often has 500 to 4,096 rows.
+pub fn growing(random: &mut Random, n: usize) -> Table {
+    let (largest, most) = [(50, 12), (50, 12), (45, 14), (16, 12), (9, 12), (6, 14)][n - 1];
+    let count = random.between(4, most);
+    rows(random, n, count, largest)
+}
+
+/// A table with one fault or several, and n perhaps not 1 to 6.
+pub fn damage(random: &mut Random, mut table: Table) -> Table {
+    for _ in 0..random.between(1, 2) {
+        match random.below(4) {
+            0 => table.n = random.pick(&[0, 0, 7, 8, 7, 8, 255, 258, usize::MAX, 1 << 32, (1 << 32) + 2]),
+            1 => cut(random, &mut table),
+            2 => stretch(random, &mut table),
+            _ => spoil(random, &mut table),
+        }
+    }
+    table
+}
+
+/// One byte less or more, so that the length is no multiple of n (unless n is 1).
+fn cut(random: &mut Random, table: &mut Table) {
+    if table.bytes.pop().is_none() || random.once_in(3) {
+        table.bytes.extend([1, 1]);
+    }
+}
+
+/// 4,097 rows or more, seldom far more.
+fn stretch(random: &mut Random, table: &mut Table) {
+    let beyond = if random.once_in(8) { random.between(1, 70_000) } else { 1 };
+    let length = table.n.clamp(1, 8) * (MOST_ROWS + beyond);
+    table.bytes.resize(length, random.byte(1));
+}
+
+/// An entry above 50.
+fn spoil(random: &mut Random, table: &mut Table) {
+    if table.bytes.is_empty() {
+        table.bytes.resize(table.n.clamp(1, 8), 0);
+    }
+    let at = match random.below(3) {
+        0 => 0,
+        1 => table.bytes.len() - 1,
+        _ => random.below(table.bytes.len()),
+    };
+    table.bytes[at] = random.pick(&[51, 51, 52, 128, 255]);
+}

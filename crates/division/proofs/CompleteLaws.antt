@@ -6,30 +6,27 @@
 --   marked-variable, unmarked-variable   the test of a variable, by its bit of the marks
 --   each-goes-on, each-fails        a test of each variable, one after the other
 --   last-complete, next-complete, complete-fails, complete-whole, complete-none   rule 4's test, row after row from the end
---   small-rows       the exponents of a table without entries above 50
 use mathlib.Core.Path.{_≡_, refl, sym, ap, _∙_, subst}
-use mathlib.Core.Bool.{Bool, true, false, not, _&&_}
+use mathlib.Core.Bool.{Bool, true, false, _&&_}
 use mathlib.Core.List.{List, [], _∷_, List·Memᴰ, List·Memᴰ·cases-cons, List·Memᴰ·not-nil}
 use mathlib.Core.Option.{Option, none, some}
-use mathlib.Core.Logic.{⊎-elim, by-cases}
-use Prim.Native.Nat.{ℕ, zero, suc, _+_, _-_, _*_, _/_, _%_, _^_, _≤_, _<_}
+use mathlib.Core.Logic.{⊎-elim}
+use Prim.Native.Nat.{ℕ, zero, suc, _+_, _-_, _/_, _%_, _^_, _≤_, _<_}
 use native.Mathlib.Nat.{not-suc-le-zero, le-of-suc-le-suc, eq-or-lt-of-le}
-use native.Mathlib.Decide.{decLe, decLt}
 use native.Mathlib.Numerals.{add-one}
 use native.Mathlib.Omega.{arith}
 use lib.ListN.{length, take, drop, set, getD, replicate, length-set}
 use lib.Seq.{take-set-lt, getD-take, length-take-le, drop-cons, drop-length, take-at}
-use Rattle.terms.specs.Tests.{pick, each, all, tests-false, tests-all, tests-as}
+use Rattle.terms.specs.Tests.{pick, each, all}
 use Rattle.terms.specs.Monomials.{Monomial, Table, _!_, rowAt, times}
 use Rattle.terms.specs.Order.{Ascending}
 use Rattle.terms.specs.Rows.{rows, padded, asRow}
-use Rattle.terms.proofs.MonomialLaws.{beyond}
-use Rattle.terms.proofs.RowsLaws.{rows-size, row-size, row-within, entry-at, member-at, padded-at}
-use Rattle.division.specs.Janet.{multiplicativeTest, marksByte, marksOf, coveredTest, completeTest}
+use Rattle.terms.proofs.RowsLaws.{rows-size, row-size, member-at, padded-at}
+use Rattle.division.specs.Janet.{multiplicativeTest, marksOf, coveredTest, completeTest}
 use Rattle.division.specs.Scan.{foundTest}
-use Rattle.division.specs.Descent.{Descent, descent}
+use Rattle.division.specs.Descent.{descent}
 use Rattle.division.specs.Ranges.{foundRow, descended}
-use Rattle.division.specs.Completeness.{Small, variableTest, rowTest}
+use Rattle.division.specs.Completeness.{variableTest, rowTest}
 use Rattle.division.proofs.MarksLaws.{marks-bit, last-marks}
 use Rattle.division.proofs.DescentLaws.{covered-found}
 use Rattle.division.specs.declared.finding.Found.the-variants as Found
@@ -145,7 +142,8 @@ module _ (n : ℕ) (G : Table) where
       go [] h = refl
       go (u ∷ H) h = absurd (omega arith)
 
-  pub next-complete : (k : ℕ) → k < length G → rowTest n G (rowAt G k) ≡ true → all (rowTest n G) (drop (suc k) G) ≡ true → all (rowTest n G) (drop k G) ≡ true
+  pub next-complete : (k : ℕ) → k < length G → rowTest n G (rowAt G k) ≡ true → all (rowTest n G) (drop (suc k) G) ≡ true
+      → all (rowTest n G) (drop k G) ≡ true
   next-complete k l h e = rw (drop-cons G k [] l, h) e
 
   -- the last row has every mark
@@ -161,11 +159,3 @@ module _ (n : ℕ) (G : Table) where
 
   pub complete-fails : (k : ℕ) → k < length G → rowTest n G (rowAt G k) ≡ false → false ≡ completeTest n G
   complete-fails k l h = sym (whole-test ∙ all-fails (rowTest n G) G (rowAt G k) (member-at G [] k l) h)
-
--- ---- exponents
-
-pub small-rows : (n : ℕ) (table : List ℕ) → ((e : ℕ) → List·Memᴰ e table → e ≤ 50) → Small (rows n table)
-small-rows n table s r l zero = omega arith
-small-rows n table s r l (suc i) = by-cases (decLt i n)
-    (λ h. rw (entry-at n table r i l h) (s (getD table (r * n + i) 0) (member-at table 0 (r * n + i) (omega (arith, row-within n table r l)))))
-    (λ g. omega (arith, beyond (rowAt (rows n table) r) (suc i) (omega (arith, row-size n table r l))))

@@ -8,7 +8,7 @@
 --   refuses-table, refuses-length, refuses-order, refuses-none   the number of the first check that refuses
 --   find-ready, find-length   what is known of inputs that passed
 use mathlib.Core.Path.{_≡_, refl, sym, ap, _∙_, subst}
-use mathlib.Core.List.{List, [], _∷_, _++_, List·Memᴰ·head, List·Memᴰ·tail}
+use mathlib.Core.List.{List, [], _∷_, List·Memᴰ·head, List·Memᴰ·tail}
 use mathlib.Core.Option.{Option, none, some}
 use mathlib.Core.Logic.{by-cases}
 use Prim.Native.Nat.{ℕ, zero, suc, _+_, _≤_, _<_}
@@ -20,16 +20,18 @@ use Rattle.terms.specs.Tests.{decide}
 use Rattle.terms.specs.Monomials.{degree}
 use Rattle.terms.specs.Order.{Ascending}
 use Rattle.terms.specs.Rows.{rows}
-use Rattle.terms.specs.Refusals.{Check, Accepts, refusal, tableChecks}
+use Rattle.terms.specs.Refusals.{Accepts, refusal, tableChecks}
 use Rattle.terms.proofs.OrderLaws.{tests-ascending}
 use Rattle.terms.proofs.RowsLaws.{rows-size}
-use Rattle.terms.proofs.RefusalLaws.{accepted, refusal-holds, refusal-passes, refusal-append, refusal-first, table-accepted}
+use Rattle.terms.proofs.RefusalLaws.{accepted, refusal-holds, refusal-passes, refusal-append, refusal-first}
 use Rattle.division.specs.Janet.{Multiplicative}
 use Rattle.division.specs.Scan.{Answers}
 use Rattle.division.specs.Descent.{Descent, descent}
 use Rattle.division.specs.Ranges.{Ready, foundRow, descended}
-use Rattle.division.specs.Operations.{NotAscending, lengthCheck, orderCheck, findChecks, findNumber, findRow, findSteps, findGives, findCase, findAnswer, FindPromise}
+use Rattle.division.specs.Operations.{NotAscending, lengthCheck, orderCheck, findChecks, findNumber}
+use Rattle.division.specs.Operations.{findRow, findSteps, findGives, findCase, findAnswer, FindPromise}
 use Rattle.division.proofs.DescentLaws.{descent-finds, descent-steps}
+use Rattle.division.proofs.ReadyLaws.{table-ready}
 use Rattle.division.specs.declared.finding.FindAnswer.{FindAnswer}
 use Rattle.division.specs.declared.finding.FindAnswer.the-variants.{Row, Nothing, Refused}
 use Rattle.division.specs.declared.finding.Found.the-variants as Found
@@ -81,7 +83,8 @@ find-make {n} {table} {query} e = record {
 }
 
 module _ (n : ℕ) (table query : List ℕ) where
-  pub find-accepts : refusal (findChecks n table query) ≡ 0 → FindPromise n table query (findGives (descent n (rows n table) query .found) (descent n (rows n table) query .steps))
+  pub find-accepts : refusal (findChecks n table query) ≡ 0
+      → FindPromise n table query (findGives (descent n (rows n table) query .found) (descent n (rows n table) query .steps))
   unfolding findAnswer
   find-accepts e = find-make (ap (λ (m : ℕ). findCase m (descent n (rows n table) query)) (sym e))
 
@@ -106,7 +109,8 @@ module _ (n : ℕ) (table query : List ℕ) where
 
     pub refuses-none : length query ≡ n → Ascending (rows n table) → 0 ≡ refusal (findChecks n table query)
     unfolding refusal
-    refuses-none e h = sym (own-checks ∙ refusal-passes (lengthCheck n query) (orderCheck n table ∷ []) (λ f. f e) ∙ refusal-passes (orderCheck n table) [] (λ f. f h))
+    refuses-none e h = sym (own-checks ∙ refusal-passes (lengthCheck n query) (orderCheck n table ∷ []) (λ f. f e) ∙ refusal-passes
+        (orderCheck n table) [] (λ f. f h))
 
   -- ---- inputs that passed
 
@@ -120,14 +124,9 @@ module _ (n : ℕ) (table query : List ℕ) where
   find-length e = by-cases (ℕ-discrete (length query) n) (λ h. h) (λ g. absurd (own-passed e (lengthCheck n query) (List·Memᴰ·head refl) g))
 
   pub find-ready : refusal (findChecks n table query) ≡ 0 → Ready n (rows n table)
-  find-ready e =
-      let t = table-accepted n table (accepted (tableChecks n table) (table-passed e)) in
-      record {
-        some = t .some;
-        few = t .few;
-        limited = t .limited;
-        ascends = by-cases (decide (tests-ascending (rows n table))) (λ h. h) (λ g. absurd (own-passed e (orderCheck n table) (List·Memᴰ·tail (List·Memᴰ·head refl)) g));
-      }
+  find-ready e = table-ready n table (table-passed e) (by-cases (decide (tests-ascending (rows n table)))
+      (λ h. h)
+      (λ g. absurd (own-passed e (orderCheck n table) (List·Memᴰ·tail (List·Memᴰ·head refl)) g)))
 
   -- ---- the answer from what the code's descent gives
 
@@ -150,5 +149,6 @@ module _ (n : ℕ) (table query : List ℕ) where
         (descent-finds (rows-size n table) query (find-length e))
 
     pub find-steps : findSteps answer ≤ degree query + n
-    find-steps = rw (ap findSteps (find-unique p (find-accepts e)) ∙ gives-steps (descent n (rows n table) query .found) (descent n (rows n table) query .steps))
+    find-steps = rw (ap findSteps (find-unique p (find-accepts e)) ∙ gives-steps (descent n (rows n table) query .found)
+        (descent n (rows n table) query .steps))
         (descent-steps n (rows n table) query (find-length e))

@@ -10,6 +10,8 @@ pub mod DescentLaws
 pub mod Facade
 pub mod Examples
 pub mod RangeLaws
+pub mod SteppingLaws
+pub mod ReadyLaws
 pub mod FindLaws
 pub mod CompleteLaws
 pub mod InsideLaws

@@ -6,30 +6,30 @@
 --   descend-gap      it ends with nothing where the last exponent stepped on is below q's and not the largest
 --   descend-down     it takes the next variable where that exponent is q's or the largest
 --   ascends-at       in a range that is equal before i the exponents at i ascend
---   range-none, range-next, range-gap, range-down   the same four laws of ranges
+--   range-above, range-shared   the rows above the least exponent, and those that have it, are such ranges again
+--   range-none, range-next, range-gap, range-down   the four laws of the descent, of ranges
 --   larger-unique    there is one first later row with a larger exponent
 use mathlib.Core.Path.{_≡_, refl, sym, ap, _∙_, subst}
 use mathlib.Core.Bool.{Bool, true, false, _||_}
-use mathlib.Core.List.{List, [], _∷_, _++_, map, List·Memᴰ, List·Memᴰ·head, List·Memᴰ·tail, List·Memᴰ·cases-cons, List·Memᴰ·not-nil, List·Memᴰ·append-cases}
-use mathlib.Core.Option.{Option, none, some}
+use mathlib.Core.List.{List, [], _∷_, _++_, map, List·Memᴰ, List·Memᴰ·head, List·Memᴰ·tail, List·Memᴰ·cases-cons, List·Memᴰ·not-nil}
+use mathlib.Core.Option.{none, some}
 use mathlib.Core.Logic.{_⊎_, inl, inr, ⊎-elim, by-cases}
 use Prim.Native.Nat.{ℕ, zero, suc, _+_, _-_, _≤_, _<_}
-use native.Mathlib.Nat.{not-suc-le-zero, le-of-suc-le-suc, eq-or-lt-of-le}
-use native.Mathlib.Decide.{decLe, decLt, ℕ-discrete}
-use native.Mathlib.Numerals.{add-one}
+use native.Mathlib.Nat.{not-suc-le-zero, eq-or-lt-of-le}
+use native.Mathlib.Decide.{decLt}
 use native.Mathlib.Omega.{arith}
-use borrow.Author.Tests.{le-ltb, lt-ltb, le-leb, lt-leb, eq-eqb, ne-eqb}
-use lib.Dec.{T, leb, ltb, eqb}
-use lib.ListN.{length, getD}
+use borrow.Author.Tests.{le-ltb, lt-ltb, le-leb, eq-eqb, ne-eqb}
+use lib.Dec.{leb, eqb}
+use lib.ListN.{length}
 use Rattle.terms.specs.Tests.{all, keep, tests-true, tests-false}
 use Rattle.terms.specs.Monomials.{Monomial, Table, _!_, rowAt, SameBefore}
 use Rattle.terms.specs.Order.{Precedes, Ascending}
 use Rattle.terms.proofs.MonomialLaws.{before-suc, before-first}
 use Rattle.terms.proofs.OrderLaws.{ascending-between}
-use Rattle.division.specs.Descent.{Descent, insert, distinct, first, last, numbersFrom, exponents, stepped, goesOn, onward, descend, descent}
+use Rattle.division.specs.Descent.{insert, distinct, first, last, numbersFrom, exponents, stepped, goesOn, onward, descend, descent}
 use Rattle.division.proofs.NumberLaws.{distinct-in, map-in, numbers-in}
-use Rattle.division.proofs.DescentLaws.{exponents-in, stepped-in, stepped-make, tests-goesOn, descent-empty}
-use Rattle.division.specs.Ranges.{range, GroupRange, FirstLarger, Between, Reached, Ready, after, descendFrom}
+use Rattle.division.proofs.DescentLaws.{exponents-in, stepped-in, stepped-make, tests-goesOn}
+use Rattle.division.specs.Ranges.{range, GroupRange, FirstLarger, after}
 
 -- ---- the distinct numbers of a list
 
@@ -101,7 +101,8 @@ module _ (G : Table) (q : Monomial) (i : ℕ) where
 
   -- ---- rule 6 at one variable, by the last exponent stepped on
 
-  pub descend-none : (k : ℕ) (g : List ℕ) → ((r : ℕ) → List·Memᴰ r g → q ! i < rowAt G r ! i) → descend G q (suc k) i g ≡ record { found = none; steps = 0; ended = i }
+  pub descend-none : (k : ℕ) (g : List ℕ) → ((r : ℕ) → List·Memᴰ r g → q ! i < rowAt G r ! i)
+      → descend G q (suc k) i g ≡ record { found = none; steps = 0; ended = i }
   unfolding descend onward last
   descend-none k g h = rw (stepped-none g h)
 
@@ -130,7 +131,8 @@ module _ (G : Table) (q : Monomial) (i : ℕ) where
 
     -- One of the rows above does not exceed q's exponent: a is stepped on, and the other steps are those of the rows above, since the last
     -- exponent stepped on, the test whether it goes on, and the rows that have it are all the same without the rows that share a.
-    pub descend-next : (k x : ℕ) → List·Memᴰ x above → rowAt G x ! i ≤ q ! i → descend G q (suc k) i ((r ∷ g) ++ above) ≡ after 1 (descend G q (suc k) i above)
+    pub descend-next : (k x : ℕ) → List·Memᴰ x above → rowAt G x ! i ≤ q ! i
+        → descend G q (suc k) i ((r ∷ g) ++ above) ≡ after 1 (descend G q (suc k) i above)
     unfolding last
     descend-next k x m l = by-steps (stepped G q i above) refl
       where
@@ -170,14 +172,21 @@ module _ (G : Table) (q : Monomial) (i : ℕ) where
 
       pub descend-gap : (k x : ℕ) → List·Memᴰ x above → a < q ! i → descend G q (suc k) i ((r ∷ g) ++ above) ≡ record { found = none; steps = 1; ended = i }
       descend-gap k x m l =
-          let t : goesOn G q i above a ≡ false = sym (tests-false (tests-goesOn G q i above a) (λ o. ⊎-elim (λ e. omega arith) (λ h. omega (arith, h x m, exceed x m)) o)) in
+          let t : goesOn G q i above a ≡ false = sym (tests-false (tests-goesOn G q i above a)
+          (λ o. ⊎-elim (λ e. omega arith) (λ h. omega (arith, h x m, exceed x m)) o)) in
           descend-ends k ((r ∷ g) ++ above) a last-step (goesOn-above a (omega arith) ∙ t)
           ∙ ap (λ (s : List ℕ). record { found = none; steps = length s; ended = i }) one-step
 
       pub descend-down : (k : ℕ) → (a ≡ q ! i) ⊎ (above ≡ []) → descend G q (suc k) i ((r ∷ g) ++ above) ≡ after 1 (descend G q k (suc i) (r ∷ g))
       descend-down k o =
-          let t : goesOn G q i above a ≡ true = sym (tests-true (tests-goesOn G q i above a) (⊎-elim (λ e. inl e) (λ e. inr (λ x m. absurd (List·Memᴰ·not-nil (subst (λ (l : List ℕ). List·Memᴰ x l) e m)))) o)) in
-          rw (descend-on k ((r ∷ g) ++ above) a last-step (goesOn-above a (omega arith) ∙ t), one-step, keep-same (λ s. rowAt G s ! i) a above exceed (r ∷ g) share)
+          let t : goesOn G q i above a ≡ true = sym (tests-true (tests-goesOn G q i above a)
+          (⊎-elim (λ e. inl e) (λ e. inr (λ x m. absurd (List·Memᴰ·not-nil (subst (λ (l : List ℕ). List·Memᴰ x l) e m)))) o)) in
+          rw (
+            descend-on k ((r ∷ g) ++ above) a last-step (goesOn-above a (omega arith) ∙ t),
+            one-step,
+            keep-same (λ s. rowAt G s ! i) a above exceed
+                (r ∷ g) share,
+          )
 
 -- ---- ranges of row numbers
 
@@ -200,7 +209,7 @@ numbers-add r (suc j) k =
 range-in : (lo hi x : ℕ) → List·Memᴰ x (range lo hi) → (lo ≤ x) × (x < hi)
 range-in lo hi x m = let p = numbers-in lo (hi - lo) x m in (p .0, omega (arith, p .0, p .1))
 
-range-cons : (lo hi : ℕ) → lo < hi → range lo hi ≡ lo ∷ range (suc lo) hi
+pub range-cons : (lo hi : ℕ) → lo < hi → range lo hi ≡ lo ∷ range (suc lo) hi
 unfolding numbersFrom
 range-cons lo hi l = let e : hi - lo ≡ suc (hi - suc lo) = omega arith in rw e
 
@@ -236,7 +245,7 @@ larger-unique G i lo hi r s f g = by-cases (decLt r s)
     (λ l. absurd (omega (arith, f .larger (omega (arith, g .within)), g .none r (f .later) l)))
     (λ h. by-cases (decLt s r) (λ l. absurd (omega (arith, g .larger (omega (arith, f .within)), f .none s (g .later) l))) (λ k. omega arith))
 
-module _ (G : Table) (ascends : Ascending G) (i lo hi : ℕ) (R : GroupRange G i lo hi) where
+module _ {G : Table} {i lo hi : ℕ} (ascends : Ascending G) (R : GroupRange G i lo hi) where
   pub ascends-at : (r s : ℕ) → lo ≤ r → r ≤ s → s < hi → rowAt G r ! i ≤ rowAt G s ! i
   ascends-at r s a b c = ⊎-elim
       (λ e. omega (arith, ap (λ (k : ℕ). rowAt G k ! i) e))
@@ -244,7 +253,7 @@ module _ (G : Table) (ascends : Ascending G) (i lo hi : ℕ) (R : GroupRange G i
       (λ j h. sym (R .same r a (omega arith) j h) ∙ R .same s (omega arith) c j h))
       (eq-or-lt-of-le b)
 
-  module _ (mid : ℕ) (F : FirstLarger G i lo hi mid) where
+  module _ {mid : ℕ} (F : FirstLarger G i lo hi mid) where
     larger-share : (x : ℕ) → lo ≤ x → x < mid → rowAt G x ! i ≡ rowAt G lo ! i
     larger-share x a b = ⊎-elim
         (λ e. ap (λ (k : ℕ). rowAt G k ! i) (sym e))
@@ -284,128 +293,31 @@ module _ (G : Table) (ascends : Ascending G) (i lo hi : ℕ) (R : GroupRange G i
     pub range-none : q ! i < rowAt G lo ! i → descend G q (suc k) i (range lo hi) ≡ record { found = none; steps = 0; ended = i }
     range-none l = descend-none G q i k (range lo hi) (λ r m. let p = range-in lo hi r m in omega (arith, ascends-at lo r (omega arith) (p .0) (p .1)))
 
-    module _ (mid : ℕ) (F : FirstLarger G i lo hi mid) (under : rowAt G lo ! i ≤ q ! i) where
+    module _ {mid : ℕ} (F : FirstLarger G i lo hi mid) (under : rowAt G lo ! i ≤ q ! i) where
       split : range lo hi ≡ (lo ∷ range (suc lo) mid) ++ range mid hi
       split = range-split lo mid hi (F .later) (F .within)
 
       pub range-next : mid < hi → rowAt G mid ! i ≤ q ! i → descend G q (suc k) i (range lo hi) ≡ after 1 (descend G q (suc k) i (range mid hi))
       range-next l h =
           ap (descend G q (suc k) i) split
-          ∙ descend-next G q i lo (range (suc lo) mid) (range mid hi) (rowAt G lo ! i) (share-in mid F) (exceed-in mid F) under k mid (numbers-first mid (hi - mid) (omega arith)) h
+          ∙ descend-next G q i lo (range (suc lo) mid) (range mid hi) (rowAt G lo ! i) (share-in F) (exceed-in F) under k mid
+          (numbers-first mid (hi - mid) (omega arith)) h
 
       beyond-in : (mid < hi → q ! i < rowAt G mid ! i) → (x : ℕ) → List·Memᴰ x (range mid hi) → q ! i < rowAt G x ! i
-      beyond-in h x m = let p = range-in mid hi x m in omega (arith, larger-above mid F x (p .0) (p .1), h (omega (arith, p .0, p .1)))
+      beyond-in h x m = let p = range-in mid hi x m in omega (arith, larger-above F x (p .0) (p .1), h (omega (arith, p .0, p .1)))
 
-      pub range-gap : mid < hi → q ! i < rowAt G mid ! i → rowAt G lo ! i < q ! i → descend G q (suc k) i (range lo hi) ≡ record { found = none; steps = 1; ended = i }
+      pub range-gap : mid < hi → q ! i < rowAt G mid ! i → rowAt G lo ! i < q ! i
+          → descend G q (suc k) i (range lo hi) ≡ record { found = none; steps = 1; ended = i }
       range-gap l h g =
           ap (descend G q (suc k) i) split
-          ∙ descend-gap G q i lo (range (suc lo) mid) (range mid hi) (rowAt G lo ! i) (share-in mid F) (exceed-in mid F) under (beyond-in (λ m. h)) k mid (numbers-first mid (hi - mid) (omega arith)) g
+          ∙ descend-gap G q i lo (range (suc lo) mid) (range mid hi) (rowAt G lo ! i) (share-in F) (exceed-in F) under
+          (beyond-in (λ m. h)) k mid (numbers-first mid (hi - mid) (omega arith)) g
 
-      pub range-down : (mid < hi → q ! i < rowAt G mid ! i) → (mid < hi → q ! i ≤ rowAt G lo ! i) → descend G q (suc k) i (range lo hi) ≡ after 1 (descend G q k (suc i) (range lo mid))
+      pub range-down : (mid < hi → q ! i < rowAt G mid ! i) → (mid < hi → q ! i ≤ rowAt G lo ! i)
+          → descend G q (suc k) i (range lo hi) ≡ after 1 (descend G q k (suc i) (range lo mid))
       range-down h g =
           ap (descend G q (suc k) i) split
-          ∙ descend-down G q i lo (range (suc lo) mid) (range mid hi) (rowAt G lo ! i) (share-in mid F) (exceed-in mid F) under (beyond-in h) k
-          (by-cases (decLt mid hi) (λ l. inl (omega (arith, g l))) (λ f. let e : mid ≡ hi = omega (arith, F .within) in inr (ap (λ (m : ℕ). range mid m) (sym e) ∙ range-empty mid)))
+          ∙ descend-down G q i lo (range (suc lo) mid) (range mid hi) (rowAt G lo ! i) (share-in F) (exceed-in F) under (beyond-in h) k
+          (by-cases (decLt mid hi) (λ l. inl (omega (arith, g l))) (λ f. let e : mid ≡ hi = omega (arith, F .within) in inr
+          (ap (λ (m : ℕ). range mid m) (sym e) ∙ range-empty mid)))
           ∙ ap (λ (l : List ℕ). after 1 (descend G q k (suc i) l)) (sym (range-cons lo mid (F .later)))
-
--- ---- what the code does, in these words
-
--- two neighbouring rows within a bracket of the range: the second is the first later row with a larger exponent
-pub larger-found : (G : Table) (i lo hi low high r : ℕ) → Ascending G → GroupRange G i lo hi → Between G i (rowAt G lo ! i) lo hi low high → Between G i (rowAt G lo ! i) low high (r - 1) r → FirstLarger G i lo hi r
-larger-found G i lo hi low high r ascends R a b = record {
-  later = omega (arith, a .from, b .from, b .apart);
-  within = omega (arith, a .within, b .within);
-  none = λ s l h. omega (arith, b .not-above, ascends-at G ascends i lo hi R s (r - 1) (omega arith) (omega arith) (omega (arith, b .apart, b .within, a .within)));
-  larger = λ l. by-cases (decLt r high)
-      (b .above)
-      (λ g. let e : high ≡ r = omega (arith, b .within) in subst (λ (k : ℕ). rowAt G lo ! i < rowAt G k ! i) e (a .above (omega arith)));
-}
-
--- the byte of variable i stands one place before it
-pub read-at : (q : Monomial) (i : ℕ) → 0 < i → getD q (i - 1) 0 ≡ q ! i
-read-at q zero p = absurd (not-suc-le-zero p)
-read-at q (suc i) p = let e : suc i - 1 ≡ i = omega arith in rw e
-
--- one more step before a descent
-after-one : (s : ℕ) (d e : Descent) → d ≡ after 1 e → after (s + 1) e ≡ after s d
-after-one s d e p =
-    let z : s + 1 + e .steps ≡ s + (1 + e .steps) = omega arith in
-    rw (p, z)
-
-module _ (n : ℕ) (G : Table) (q : Monomial) (i lo hi steps : ℕ) (R : Reached n G q i lo hi steps) where
-  -- behind the last variable the row that is left is found
-  pub reached-end : n < i → i ≤ suc n → record { found = some lo; steps = steps; ended = 0 } ≡ after steps (descendFrom n G q i lo hi)
-  unfolding descend first
-  reached-end l h =
-      let e : suc n - i ≡ 0 = omega arith in
-      let z : steps + 0 ≡ steps = omega arith in
-      rw (e, range-cons lo hi (R .group .some), z)
-
-  module _ (within : i ≤ n) where
-    left-here : suc n - i ≡ suc (n - i)
-    left-here = omega arith
-
-    pub reached-none : q ! i < rowAt G lo ! i → record { found = none; steps = steps; ended = i } ≡ after steps (descendFrom n G q i lo hi)
-    reached-none l =
-        let z : steps + 0 ≡ steps = omega arith in
-        rw (left-here, range-none G (R .ascends) i lo hi (R .group) q (n - i) l, z)
-
-    module _ (mid : ℕ) (F : FirstLarger G i lo hi mid) where
-      pub reached-above : mid < hi → Reached n G q i mid hi (steps + 1)
-      reached-above l = record {
-        ascends = R .ascends;
-        limited = R .limited;
-        group = range-above G (R .ascends) i lo hi (R .group) mid F l;
-        sized = R .sized;
-        variable = R .variable;
-        left = omega (arith, R .left, F .later, F .within);
-      }
-
-      pub reached-shared : Reached n G q (i + 1) lo mid (steps + 1)
-      reached-shared = record {
-        ascends = R .ascends;
-        limited = R .limited;
-        group = rw (add-one i) (range-shared G (R .ascends) i lo hi (R .group) mid F);
-        sized = R .sized;
-        variable = omega arith;
-        left = omega (arith, R .left, F .later, F .within);
-      }
-
-      module _ (under : rowAt G lo ! i ≤ q ! i) where
-        pub reached-next : mid < hi → rowAt G mid ! i ≤ q ! i → after (steps + 1) (descendFrom n G q i mid hi) ≡ after steps (descendFrom n G q i lo hi)
-        reached-next l h =
-            rw (left-here) (after-one steps (descend G q (suc (n - i)) i (range lo hi)) (descend G q (suc (n - i)) i (range mid hi)) (range-next G (R .ascends) i lo hi (R .group) q (n - i) mid F under l h))
-
-        pub reached-gap : mid < hi → q ! i < rowAt G mid ! i → rowAt G lo ! i < q ! i → record { found = none; steps = steps + 1; ended = i } ≡ after steps (descendFrom n G q i lo hi)
-        reached-gap l h g = rw (left-here, range-gap G (R .ascends) i lo hi (R .group) q (n - i) mid F under l h g)
-
-        pub reached-down : (mid < hi → q ! i < rowAt G mid ! i) → (mid < hi → q ! i ≤ rowAt G lo ! i) → after (steps + 1) (descendFrom n G q (i + 1) lo mid) ≡ after steps (descendFrom n G q i lo hi)
-        reached-down h g =
-            let e : suc n - (i + 1) ≡ n - i = omega arith in
-            rw (e, add-one i, left-here) (after-one steps (descend G q (suc (n - i)) i (range lo hi)) (descend G q (n - i) (suc i) (range lo mid)) (range-down G (R .ascends) i lo hi (R .group) q (n - i) mid F under h g))
-
--- ---- the whole table
-
--- without rows the descent ends at once at the first variable
-pub ready-empty : (n : ℕ) (G : Table) (q : Monomial) → Ready n G → length G ≡ 0 → record { found = none; steps = 0; ended = 1 } ≡ descent n G q
-ready-empty zero G q R e = absurd (not-suc-le-zero (R .some))
-ready-empty (suc n) [] q R e = sym (descent-empty n q)
-ready-empty (suc n) (u ∷ G) q R e = absurd (omega arith)
-
-pub descent-all : (n : ℕ) (G : Table) (q : Monomial) → after 0 (descendFrom n G q 1 0 (length G)) ≡ descent n G q
-unfolding descent
-descent-all n G q =
-    let e : suc n - 1 ≡ n = omega arith in
-    let f : length G - 0 ≡ length G = omega arith in
-    let z : 0 + descend G q n 1 (numbersFrom 0 (length G)) .steps ≡ descend G q n 1 (numbersFrom 0 (length G)) .steps = omega arith in
-    rw (e, f, z)
-
-pub reached-start : (n : ℕ) (G : Table) (q : Monomial) → Ready n G → length q ≡ n → 0 < length G → Reached n G q 1 0 (length G) 0
-reached-start n G q R e p = record {
-  ascends = R .ascends;
-  limited = R .limited;
-  group = range-all G p;
-  sized = e;
-  variable = omega arith;
-  left = omega (arith, R .limited, R .few);
-}

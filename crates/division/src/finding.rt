@@ -14,7 +14,7 @@ ghost use Rattle.terms.specs.Order.{Ascending};
 ghost use Rattle.terms.specs.Refusals.{refusal};
 ghost use Rattle.division.specs.Descent.{descent};
 ghost use Rattle.division.specs.Operations.{findChecks, FindPromise};
-ghost use Rattle.division.specs.Ranges.{GroupRange, FirstLarger, Between, Reached, Ready, after, descendFrom, descended};
+ghost use Rattle.division.specs.Ranges.{GroupRange, FirstLarger, Searched, Between, LastStep, Reached, Ready, after, descendFrom, descended};
 
 // What a descent found.
 pub enum Found {
@@ -36,9 +36,9 @@ pub struct Bracket {
     pub high: RowNumber,
 }
 
-// Goes from row lo on in growing strides, to the first that ends at an exponent above `least` or at the range's end.
+// From row lo on in growing strides, to the first that ends at an exponent above `least` or at the range's end.
 fn gallop(table: &[u8], n: usize, i: Variable, least: u8, lo: RowNumber, hi: RowNumber) -> Bracket
-    requires { ⌜ (0 < i .0) × (i .0 ≤ n) × (lo .0 < hi .0) × (hi .0 ≤ length (rows n (now table))) × (hi .0 ≤ 4096) × (rowAt (rows n (now table)) (lo .0) ! (i .0) ≤ least) ⌝ }
+    requires { ⌜ Searched n (rows n (now table)) (i .0) least (lo .0) (hi .0) ⌝ }
     ensures { λ r. ⌜ Between (rows n (now (table .entry))) (i .0) least (lo .0) (hi .0) (r .low .0) (r .high .0) ⌝ }
 {
     let end = hi.0;
@@ -61,9 +61,66 @@ fn gallop(table: &[u8], n: usize, i: Variable, least: u8, lo: RowNumber, hi: Row
     }
 }
 
-// Halves the rows between, until the two are neighbours.
+// From row hi back in growing strides, to the first that ends at an exponent not above `least` or at the range's start.
+fn gallop_back(
+    table: &[u8],
+    n: usize,
+    i: Variable,
+    least: u8,
+    lo: RowNumber,
+    hi: RowNumber,
+) -> Bracket
+    requires { ⌜ Searched n (rows n (now table)) (i .0) least (lo .0) (hi .0) ⌝ }
+    ensures { λ r. ⌜ Between (rows n (now (table .entry))) (i .0) least (lo .0) (hi .0) (r .low .0) (r .high .0) ⌝ }
+{
+    let start = lo.0;
+    let mut high = hi.0;
+    let mut stride = 1;
+    while stride < high - start {
+        let low = high - stride;
+        if exponent(table, n, RowNumber(low), i) <= least {
+            return Bracket {
+                low: RowNumber(low),
+                high: RowNumber(high),
+            };
+        }
+        high = low;
+        stride *= 2;
+    }
+    Bracket {
+        low: RowNumber(start),
+        high: RowNumber(high),
+    }
+}
+
+// A bracket in which the exponents first exceed `least`, looked for from `near` rows behind row lo.
+fn enclose(
+    table: &[u8],
+    n: usize,
+    i: Variable,
+    least: u8,
+    lo: RowNumber,
+    hi: RowNumber,
+    near: usize,
+) -> Bracket
+    requires { ⌜ Searched n (rows n (now table)) (i .0) least (lo .0) (hi .0) × (0 < near) ⌝ }
+    ensures { λ r. ⌜ Between (rows n (now (table .entry))) (i .0) least (lo .0) (hi .0) (r .low .0) (r .high .0) ⌝ }
+{
+    let start = lo.0;
+    let end = hi.0;
+    if end - start <= near {
+        return gallop_back(table, n, i, least, lo, hi);
+    }
+    let guess = RowNumber(start + near);
+    if exponent(table, n, guess, i) <= least {
+        return gallop(table, n, i, least, guess, hi);
+    }
+    gallop_back(table, n, i, least, lo, guess)
+}
+
+// Halves the rows of a bracket until its two rows are neighbours.
 fn narrow(table: &[u8], n: usize, i: Variable, least: u8, between: Bracket) -> RowNumber
-    requires { ⌜ (0 < i .0) × (i .0 ≤ n) × (between .low .0 < between .high .0) × (between .high .0 ≤ length (rows n (now table))) × (rowAt (rows n (now table)) (between .low .0) ! (i .0) ≤ least) ⌝ }
+    requires { ⌜ Searched n (rows n (now table)) (i .0) least (between .low .0) (between .high .0) ⌝ }
     ensures { λ r. ⌜ Between (rows n (now (table .entry))) (i .0) least (between .low .0) (between .high .0) (r .0 - 1) (r .0) ⌝ }
 {
     let mut low = between.low.0;
@@ -79,16 +136,78 @@ fn narrow(table: &[u8], n: usize, i: Variable, least: u8, between: Bracket) -> R
     RowNumber(high)
 }
 
-// The first later row of the range with a larger exponent at variable i, or the range's end where there is none.
-fn larger_from(table: &[u8], n: usize, i: Variable, lo: RowNumber, hi: RowNumber) -> RowNumber
-    requires { ⌜ (0 < i .0) × (i .0 ≤ n) × (hi .0 ≤ 4096) × GroupRange (rows n (now table)) (i .0) (lo .0) (hi .0) × Ascending (rows n (now table)) ⌝ }
+// The first later row of the range with a larger exponent at variable i, or the range's end where there is none. It is
+// looked for from `near` rows on, which costs least where it is near there.
+fn larger_from(
+    table: &[u8],
+    n: usize,
+    i: Variable,
+    lo: RowNumber,
+    hi: RowNumber,
+    near: usize,
+) -> RowNumber
+    requires { ⌜ (0 < i .0) × (i .0 ≤ n) × (hi .0 ≤ 4096) × GroupRange (rows n (now table)) (i .0) (lo .0) (hi .0) × Ascending (rows n (now table)) × (0 < near) ⌝ }
     ensures { λ r. ⌜ FirstLarger (rows n (now (table .entry))) (i .0) (lo .0) (hi .0) (r .0) ⌝ }
 {
     let least = exponent(table, n, lo, i);
-    narrow(table, n, i, least, gallop(table, n, i, least, lo, hi))
+    narrow(
+        table,
+        n,
+        i,
+        least,
+        enclose(table, n, i, least, lo, hi, near),
+    )
 }
 
-// Steps along the exponents of the group at variable i.
+// Where stepping along a variable ended: the rows `low` to before `high` have the last exponent stepped on, and `steps`
+// exponents were stepped on before it.
+pub struct Stepped {
+    pub low: RowNumber,
+    pub high: RowNumber,
+    pub steps: usize,
+}
+
+// Steps along the exponents of the group at variable i that do not exceed the query's, of which there is one. Each search
+// starts where the rows of the exponent would end if they were as many as those of the one before.
+fn along(
+    table: &[u8],
+    n: usize,
+    query: &[u8],
+    i: Variable,
+    lo: RowNumber,
+    hi: RowNumber,
+    steps: usize,
+) -> Stepped
+    requires { ⌜ (i .0 ≤ n) × Reached n (rows n (now table)) (now query) (i .0) (lo .0) (hi .0) steps × (rowAt (rows n (now table)) (lo .0) ! (i .0) ≤ now query ! (i .0)) ⌝ }
+    ensures { λ r. ⌜ LastStep n (rows n (now (table .entry))) (now (query .entry)) (i .0) (lo .0) (hi .0) steps (r .low .0) (r .high .0) (r .steps) ⌝ }
+{
+    let variable = i.0;
+    let most = query[variable - 1];
+    let end = hi.0;
+    let mut low = lo.0;
+    let mut taken = steps;
+    let mut high = larger_from(table, n, i, lo, hi, 1).0;
+    while high < end {
+        if most < exponent(table, n, RowNumber(high), i) {
+            return Stepped {
+                low: RowNumber(low),
+                high: RowNumber(high),
+                steps: taken,
+            };
+        }
+        let near = high - low;
+        low = high;
+        taken += 1;
+        high = larger_from(table, n, i, RowNumber(low), RowNumber(end), near).0;
+    }
+    Stepped {
+        low: RowNumber(low),
+        high: RowNumber(high),
+        steps: taken,
+    }
+}
+
+// Steps along variable i, and calls for the next variable where the last exponent stepped on is the query's or the group's largest.
 fn step(
     table: &[u8],
     n: usize,
@@ -101,30 +220,29 @@ fn step(
     requires { ⌜ (i .0 ≤ n) × Reached n (rows n (now table)) (now query) (i .0) (lo .0) (hi .0) steps ⌝ }
     ensures { λ r. ⌜ r ≡ descended (after steps (descendFrom n (rows n (now (table .entry))) (now (query .entry)) (i .0) (lo .0) (hi .0))) ⌝ }
 {
-    let least = exponent(table, n, lo, i);
     let variable = i.0;
     let most = query[variable - 1];
-    if most < least {
+    if most < exponent(table, n, lo, i) {
         return Descended {
             found: Found::Nothing,
             steps,
             ended: i,
         };
     }
-    let next = larger_from(table, n, i, lo, hi);
-    if next.0 < hi.0 {
-        if exponent(table, n, next, i) <= most {
-            return step(table, n, query, i, next, hi, steps + 1);
-        }
-        if least < most {
+    let last = along(table, n, query, i, lo, hi, steps);
+    let low = last.low;
+    let high = last.high;
+    let taken = last.steps + 1;
+    if high.0 < hi.0 {
+        if exponent(table, n, low, i) < most {
             return Descended {
                 found: Found::Nothing,
-                steps: steps + 1,
+                steps: taken,
                 ended: i,
             };
         }
     }
-    descend(table, n, query, Variable(variable + 1), lo, next, steps + 1)
+    descend(table, n, query, Variable(variable + 1), low, high, taken)
 }
 
 // Takes variable i, or finds the row that is left after the last.

@@ -1,28 +1,22 @@
+-- Invariant: the test holds of the variables 1 to i. A variable with its bit set passes; one without it passes where the product has a Janet divisor.
 use borrow.Author.Needs.{needs}
 use native.Mathlib.Omega.{arith}
-use borrow.Author.Tests.{le-ltb, lt-ltb, le-leb, lt-leb, eq-eqb, ne-eqb, ltb-true, ltb-false, leb-true, leb-false, eqb-true, eqb-false}
-use mathlib.Core.Path.{_≡_, refl, sym, ap, _∙_}
+use mathlib.Core.Path.{_≡_, sym, _∙_}
 use mathlib.Core.Logic.{⊎-elim}
-use mathlib.Core.List.{List, [], _∷_, _++_}
-use mathlib.Core.Bool.{Bool, true, false}
-use Prim.Native.Nat.{ℕ, zero, suc, _+_, _*_, _-_, _/_, _%_, _≤_, _<_}
-use lib.ListN.{length, take, drop, getD, set, replicate}
+use mathlib.Core.Bool.{true}
+use Prim.Native.Nat.{suc, _+_, _-_, _/_, _%_, _≤_, _<_, _^_}
+use lib.ListN.{take}
 use denote.Ref.{now}
 use Rattle.terms.specs.Tests.{each}
-use Prim.Native.Nat.{_^_}
 use native.Mathlib.Numerals.{add-one}
 use borrow.Author.Tests.{not-true, not-false}
-use Rattle.terms.specs.Monomials.{_!_, rowAt, times}
+use Rattle.terms.specs.Monomials.{rowAt, times}
 use Rattle.division.specs.Janet.{marksOf, coveredTest}
-use Rattle.terms.specs.Rows.{rows, asRow}
+use Rattle.terms.specs.Rows.{rows}
 use Rattle.division.specs.Completeness.{variableTest, rowTest}
 use Rattle.division.proofs.CompleteLaws.{read-exponent, read-row, marked-variable, unmarked-variable, each-goes-on, each-fails}
 use Rattle.division.proofs.completeness.row_complete.Statement.{statement}
 use Rattle.division.proofs.completeness.row_complete.Tie as tie
-use Rattle.division.proofs.completeness.row_complete.Reads as reads
-use Rattle.division.proofs.completeness.row_complete.Lts as lts
-use Rattle.division.proofs.completeness.covered.Reads as covered-reads
-use Rattle.terms.proofs.row_at.Reads as row-at-reads
 
 abbrev Inv-loop : tie.InvT-loop
 Inv-loop table n marks row i₀ i = (i ≤ n) × (each i (variableTest (rows n table) (take n (row .exponents))) ≡ true)
@@ -30,42 +24,38 @@ Inv-loop table n marks row i₀ i = (i ≤ n) × (each i (variableTest (rows n t
 abbrev μ-loop : tie.MeasureT-loop
 μ-loop table n marks row i₀ i = n - i
 
--- src/completeness.rt:36:9
 row-at-requires : tie.Need-row-at-requires Inv-loop μ-loop
 row-at-requires c κs = search needs
 
--- src/completeness.rt:38:5
 loop-holds : tie.Need-loop-holds Inv-loop μ-loop
 loop-holds c = search needs
 
--- src/completeness.rt:39:22
 cast-if1 : tie.Need-cast-if1 Inv-loop μ-loop
 cast-if1 c = search needs
 
--- src/completeness.rt:39:13
 shr-if1 : tie.Need-shr-if1 Inv-loop μ-loop
 shr-if1 c = search needs
 
--- src/completeness.rt:40:49
 add-t12 : tie.Need-add-t12 Inv-loop μ-loop
 add-t12 c = search needs
 
--- src/completeness.rt:40:17
 covered-requires : tie.Need-covered-requires Inv-loop μ-loop
 covered-requires c κs =
     let s = c .before .before .before .before .before in
     let a = s .args in
-    let G = rows (a .n) (a .table .now) in
-    let u = rowAt G (a .k .0) in
     let l = c .before .before .loop in
     let r = c .before .before .before .row-at in (
       s .pre .0,
       omega arith,
       omega arith,
-      omega (arith, read-exponent (a .n) (a .table .now) (a .k .0) (s .pre .2) (r .result) (r .ensures) (l .i + 1), s .pre .1 (a .k .0) (s .pre .2) (l .i + 1)),
+      omega (
+        arith,
+        read-exponent (a .n) (a .table .now) (a .k .0) (s .pre .2) (r .result) (r .ensures) (l .i + 1),
+        s .pre .1 (a .k .0) (s .pre .2)
+            (l .i + 1),
+      ),
     )
 
--- src/completeness.rt:41:17
 returns : tie.Need-returns Inv-loop μ-loop
 unfolding rowTest
 returns c =
@@ -81,15 +71,12 @@ returns c =
     let e : c .before .covered .result ≡ coveredTest G (times u (suc (l .i)) 1) = rw (w, add-one) at (c .before .covered .ensures) in
     sym (each-fails (a .n) (l .i) (variableTest G u) i (unmarked-variable (a .n) G u (l .i) i z ∙ sym e ∙ not-true _ (c .if2 .taken)))
 
--- src/completeness.rt:44:9
 add-i : tie.Need-add-i Inv-loop μ-loop
 add-i c = search needs
 
--- src/completeness.rt:38:5
 loop-less : tie.Need-loop-less Inv-loop μ-loop
 loop-less c = search needs
 
--- src/completeness.rt:38:5
 loop-again : tie.Need-loop-again Inv-loop μ-loop
 loop-again c =
     let s = c .before .before .before .before .before in
@@ -110,14 +97,11 @@ loop-again c =
           (c .if1 .came))),
     )
 
--- src/completeness.rt:32:1
 returns-2 : tie.Need-returns-2 Inv-loop μ-loop
 unfolding rowTest
 returns-2 c =
     let s = c .before .before .before .before in
     let a = s .args in
-    let G = rows (a .n) (a .table .now) in
-    let u = rowAt G (a .k .0) in
     let l = c .before .loop in
     let r = c .before .before .row-at in
     let w = read-row (a .n) (a .table .now) (a .k .0) (s .pre .2) (r .result) (r .ensures) in

@@ -1,12 +1,10 @@
+-- Invariant: the marks are those of row k, and the test holds of row k and all behind it. The last row has every mark, so it holds there.
 use borrow.Author.Needs.{needs}
 use native.Mathlib.Omega.{arith}
-use borrow.Author.Tests.{le-ltb, lt-ltb, le-leb, lt-leb, eq-eqb, ne-eqb, ltb-true, ltb-false, leb-true, leb-false, eqb-true, eqb-false}
-use mathlib.Core.Path.{_≡_, refl, sym, ap, _∙_}
-use mathlib.Core.Logic.{⊎-elim}
-use mathlib.Core.List.{List, [], _∷_, _++_}
-use mathlib.Core.Bool.{Bool, true, false}
-use Prim.Native.Nat.{ℕ, zero, suc, _+_, _*_, _-_, _/_, _%_, _≤_, _<_}
-use lib.ListN.{length, take, drop, getD, set, replicate}
+use mathlib.Core.Path.{_≡_, sym, _∙_}
+use mathlib.Core.Bool.{true}
+use Prim.Native.Nat.{suc, _-_, _/_, _<_}
+use lib.ListN.{length, drop}
 use denote.Ref.{now}
 use borrow.Author.Tests.{not-true, not-false}
 use Rattle.terms.specs.Tests.{all}
@@ -19,24 +17,18 @@ use Rattle.division.proofs.MarksLaws.{marks-last}
 use Rattle.division.proofs.CompleteLaws.{last-complete, next-complete, complete-fails, complete-whole, complete-none}
 use Rattle.division.proofs.completeness.table_complete.Statement.{statement}
 use Rattle.division.proofs.completeness.table_complete.Tie as tie
-use Rattle.division.proofs.completeness.table_complete.Reads as reads
-use Rattle.division.proofs.completeness.table_complete.Lts as lts
-use Rattle.division.proofs.completeness.row_complete.Reads as row-complete-reads
-use Rattle.division.proofs.successor.marks_before.Reads as marks-before-reads
-use Rattle.division.proofs.successor.marks_last.Reads as marks-last-reads
 
 abbrev Inv-loop : tie.InvT-loop
 Inv-loop n table count k₀ marks₀ k marks =
-    (k < length (rows n table)) × (marks ≡ marksOf n (rows n table) (rowAt (rows n table) k)) × (all (rowTest n (rows n table)) (drop k (rows n table)) ≡ true)
+    (k < length (rows n table)) × (marks ≡ marksOf n (rows n table) (rowAt (rows n table) k)) ×
+    (all (rowTest n (rows n table)) (drop k (rows n table)) ≡ true)
 
 abbrev μ-loop : tie.MeasureT-loop
 μ-loop n table count k₀ marks₀ k marks = k
 
--- src/completeness.rt:54:17
 div-count : tie.Need-div-count Inv-loop μ-loop
 div-count c = search needs
 
--- src/completeness.rt:56:9
 returns : tie.Need-returns Inv-loop μ-loop
 returns c =
     let s = c .before .before in
@@ -45,15 +37,12 @@ returns c =
     let e = length-rows (a .n) (a .table .now) in
     complete-none (a .n) G (omega (arith, c .if1 .taken))
 
--- src/completeness.rt:58:17
 sub-k : tie.Need-sub-k Inv-loop μ-loop
 sub-k c = search needs
 
--- src/completeness.rt:59:9
 marks-last-requires : tie.Need-marks-last-requires Inv-loop μ-loop
 marks-last-requires c κs = search needs
 
--- src/completeness.rt:60:5
 loop-holds : tie.Need-loop-holds Inv-loop μ-loop
 loop-holds c =
     let s = c .before .before .before in
@@ -64,31 +53,23 @@ loop-holds c =
     let f : suc k ≡ length G = omega (arith, c .before .if1 .left) in
     (omega arith, omega (arith, c .marks-last .ensures, marks-last (a .n) G (s .pre .0 .ascends) k f), last-complete (a .n) G (s .pre .0 .ascends) k f)
 
--- src/completeness.rt:61:9
 sub-k-2 : tie.Need-sub-k-2 Inv-loop μ-loop
 sub-k-2 c = search needs
 
--- src/completeness.rt:62:9
 marks-before-requires : tie.Need-marks-before-requires Inv-loop μ-loop
 marks-before-requires c κs =
     let s = c .before .before .before .before .before in
-    let a = s .args in
-    let G = rows (a .n) (a .table .now) in
     let l = c .before .loop in
     let back : suc (l .k - 1) ≡ l .k = omega arith in
     (s .pre .0, omega (arith, l .inv .0), rw back (l .inv .1))
 
--- src/completeness.rt:63:13
 row-complete-requires : tie.Need-row-complete-requires Inv-loop μ-loop
 row-complete-requires c κs =
     let s = c .before .before .before .before .before .before in
-    let a = s .args in
-    let G = rows (a .n) (a .table .now) in
     let l = c .before .before .loop in
     let back : suc (l .k - 1) ≡ l .k = omega arith in
     (s .pre .0, s .pre .1, omega (arith, l .inv .0), c .marks-before .ensures)
 
--- src/completeness.rt:64:13
 returns-2 : tie.Need-returns-2 Inv-loop μ-loop
 returns-2 c =
     let s = c .before .before .before .before .before .before .before .before in
@@ -98,11 +79,9 @@ returns-2 c =
     let back : suc (l .k - 1) ≡ l .k = omega arith in
     complete-fails (a .n) G (l .k - 1) (omega (arith, l .inv .0)) (sym (c .before .row-complete .ensures) ∙ not-true _ (c .if2 .taken))
 
--- src/completeness.rt:60:5
 loop-less : tie.Need-loop-less Inv-loop μ-loop
 loop-less c = search needs
 
--- src/completeness.rt:60:5
 loop-again : tie.Need-loop-again Inv-loop μ-loop
 loop-again c =
     let s = c .before .before .before .before .before .before .before .before in
@@ -112,10 +91,10 @@ loop-again c =
     let back : suc (l .k - 1) ≡ l .k = omega arith in (
       omega (arith, l .inv .0),
       c .before .before .marks-before .ensures,
-      next-complete (a .n) G (l .k - 1) (omega (arith, l .inv .0)) (sym (c .before .row-complete .ensures) ∙ not-false _ (c .if2 .left)) (rw back (l .inv .2)),
+      next-complete (a .n) G (l .k - 1) (omega (arith, l .inv .0)) (sym (c .before .row-complete .ensures) ∙ not-false _ (c .if2 .left))
+          (rw back (l .inv .2)),
     )
 
--- src/completeness.rt:50:1
 returns-3 : tie.Need-returns-3 Inv-loop μ-loop
 returns-3 c =
     let s = c .before .before .before .before .before in

@@ -1,27 +1,24 @@
+-- Stepping along a variable calls for the next variable, which calls for stepping again. The measure: the rows left, which bound the exponents left, plus
+-- the variables left. They fall at the call for the next variable; `descend` calls `step` with the same, so it counts one more.
+-- Each return is a law of rule 6 over ranges: reached-end, reached-none, stepped-gap, stepped-down.
 use borrow.Author.Needs.{needs}
 use native.Mathlib.Omega.{arith}
-use borrow.Author.Tests.{le-ltb, lt-ltb, le-leb, lt-leb, eq-eqb, ne-eqb, ltb-true, ltb-false, leb-true, leb-false, eqb-true, eqb-false}
-use mathlib.Core.Path.{_≡_, refl, sym, ap, _∙_}
+use mathlib.Core.Path.{ap, _∙_}
 use mathlib.Core.Logic.{⊎-elim}
-use mathlib.Core.List.{List, [], _∷_, _++_}
-use mathlib.Core.Bool.{Bool, true, false}
-use Prim.Native.Nat.{zero, suc, _+_, _*_, _-_, _/_, _%_, _≤_}
-use lib.ListN.{length, take, drop, getD, set, replicate}
+use Prim.Native.Nat.{suc, _+_, _*_, _-_, ℕ, _<_}
 use denote.Ref.{now}
-use Prim.Native.Nat.{ℕ, _<_}
 use borrow.Fn.Kinds.{In}
 use borrow.Fn.PlainCycle.{Measures, is, falls, and}
-use Rattle.terms.specs.Monomials.{_!_, rowAt}
 use Rattle.terms.specs.Rows.{rows}
-use Rattle.division.specs.Ranges.{Reached, after, descendFrom, descended}
-use Rattle.division.proofs.RangeLaws.{read-at, reached-end, reached-none, reached-above, reached-shared, reached-next, reached-gap, reached-down}
+use Rattle.division.specs.Ranges.{descended}
+use Rattle.division.proofs.SteppingLaws.{read-at, reached-end, reached-none, stepped-gap, stepped-down, stepped-shared}
 use Rattle.division.proofs.finding.descend.Reads as descend
 use Rattle.division.proofs.finding.descend.Kinds as descend-kinds
 use Rattle.division.proofs.finding.+descend+step.Lts-descend as descend-lts
 use Rattle.division.proofs.finding.step.Reads as step
 use Rattle.division.proofs.finding.step.Kinds as step-kinds
 use Rattle.division.proofs.finding.+descend+step.Lts-step as step-lts
-use Rattle.division.proofs.finding.larger_from.Reads as larger-from-reads
+use Rattle.division.proofs.finding.along.Reads as along-reads
 use Rattle.terms.proofs.exponent.Reads as exponent-reads
 use Rattle.division.proofs.finding.+descend+step.{statement}
 use Rattle.division.proofs.finding.+descend+step.Tie.{close}
@@ -48,123 +45,85 @@ abbrev claims : ℕ → step-lts.Claims
 claims t = (
   exponent-reads.Asked,
   exponent-reads.Learnt,
-  larger-from-reads.Asked,
-  larger-from-reads.Learnt,
-  step-below t,
-  step.Post,
+  along-reads.Asked,
+  along-reads.Learnt,
   descend-below t,
   descend.Post,
 )
 
--- src/finding.rt:109:9
 descend-returns :
     (t : ℕ) → descend-lts.Need-returns (step-below t, step.Post) (descend-at t) descend.Post
 descend-returns t c =
     let s = c .before .before .before .before in
-    let a = s .args in
-    ap descended (reached-end (a .n) (rows (a .n) (a .table .now)) (a .query .now) (a .i .0) (a .lo .0) (a .hi .0) (a .steps) (s .pre .1 .1) (c .if1 .taken) (s .pre .1 .0))
+    ap descended (reached-end (s .pre .1 .1) (c .if1 .taken) (s .pre .1 .0))
 
--- src/finding.rt:111:5
 descend-step-requires :
     (t : ℕ) → descend-lts.Need-step-requires (step-below t, step.Post) (descend-at t) descend.Post
 descend-step-requires t c κs = search needs
 
--- src/finding.rt:104:1
 descend-returns-2 :
     (t : ℕ) → descend-lts.Need-returns-2 (step-below t, step.Post) (descend-at t) descend.Post
 descend-returns-2 t c = search needs
 
--- src/finding.rt:85:9
-step-exponent-requires : (t : ℕ) → step-lts.Need-exponent-requires (claims t) (step-at t) step.Post
-step-exponent-requires t c κs = search needs
-
--- src/finding.rt:87:22
 step-sub-most : (t : ℕ) → step-lts.Need-sub-most (claims t) (step-at t) step.Post
 step-sub-most t c = search needs
 
--- src/finding.rt:87:16
 step-shared-slice-read-most : (t : ℕ) → step-lts.Need-shared-slice-read-most (claims t) (step-at t) step.Post
 step-shared-slice-read-most t c = search needs
 
--- src/finding.rt:89:9
+step-exponent-requires : (t : ℕ) → step-lts.Need-exponent-requires (claims t) (step-at t) step.Post
+step-exponent-requires t c κs = search needs
+
 step-returns : (t : ℕ) → step-lts.Need-returns (claims t) (step-at t) step.Post
 step-returns t c =
     let s = c .before .before .before .before .before in
     let a = s .args in
     let e = read-at (a .query .now) (a .i .0) (s .pre .1 .1 .variable) in
-    ap descended (reached-none (a .n) (rows (a .n) (a .table .now)) (a .query .now) (a .i .0) (a .lo .0) (a .hi .0) (a .steps) (s .pre .1 .1) (s .pre .1 .0) (omega (arith, c .if1 .taken, c .before .before .exponent .ensures)))
+    ap descended (reached-none (s .pre .1 .1) (s .pre .1 .0) (omega (arith, e, c .if1 .taken, c .before .exponent .ensures)))
 
--- src/finding.rt:91:9
-step-larger-from-requires : (t : ℕ) → step-lts.Need-larger-from-requires (claims t) (step-at t) step.Post
-step-larger-from-requires t c κs = search needs
+step-along-requires : (t : ℕ) → step-lts.Need-along-requires (claims t) (step-at t) step.Post
+step-along-requires t c κs =
+    let s = c .before .before .before .before .before in
+    let a = s .args in
+    let e = read-at (a .query .now) (a .i .0) (s .pre .1 .1 .variable) in
+    (s .pre .1 .0, s .pre .1 .1, omega (arith, e, c .if1 .left, c .before .exponent .ensures))
 
--- src/finding.rt:93:12
+step-add-taken : (t : ℕ) → step-lts.Need-add-taken (claims t) (step-at t) step.Post
+step-add-taken t c = search needs
+
 step-exponent-requires-2 : (t : ℕ) → step-lts.Need-exponent-requires-2 (claims t) (step-at t) step.Post
 step-exponent-requires-2 t c κs = search needs
 
--- src/finding.rt:94:55
-step-add-step : (t : ℕ) → step-lts.Need-add-step (claims t) (step-at t) step.Post
-step-add-step t c = search needs
-
--- src/finding.rt:94:13
-step-step-requires : (t : ℕ) → step-lts.Need-step-requires (claims t) (step-at t) step.Post
-step-step-requires t c κs =
-    let s = c .before .before .before .before .before .before .before .before .before .before .before in
-    let a = s .args in
-    let f = c .before .before .before .before .before .larger-from .ensures in
-    (omega (arith, f .later, f .within), (s .pre .1 .0, reached-above (a .n) (rows (a .n) (a .table .now)) (a .query .now) (a .i .0) (a .lo .0) (a .hi .0) (a .steps) (s .pre .1 .1) (s .pre .1 .0) (c .before .before .before .before .before .larger-from .result .0) f (omega arith)))
-
--- src/finding.rt:94:13
 step-returns-2 : (t : ℕ) → step-lts.Need-returns-2 (claims t) (step-at t) step.Post
 step-returns-2 t c =
-    let s = c .before .before .before .before .before .before .before .before .before .before .before .before in
+    let s = c .before .before .before .before .before .before .before .before .before .before .before .before .before .before in
     let a = s .args in
     let e = read-at (a .query .now) (a .i .0) (s .pre .1 .1 .variable) in
-    let f = c .before .before .before .before .before .before .larger-from .ensures in
-    c .step .ensures ∙ ap descended (reached-next (a .n) (rows (a .n) (a .table .now)) (a .query .now) (a .i .0) (a .lo .0) (a .hi .0) (a .steps) (s .pre .1 .1) (s .pre .1 .0) (c .before .before .before .before .before .before .larger-from .result .0) f
-    (omega (arith, c .before .before .before .before .before .before .before .if1 .left, c .before .before .before .before .before .before .before .before .before .exponent .ensures)) (omega arith) (omega (arith, c .before .if3 .taken, c .before .before .exponent2 .ensures)))
+    let w = c .before .before .before .before .before .before .before .before .along in
+    let x = w .result in
+    let l : x .high .0 < a .hi .0 = omega (arith, c .before .before .if2 .taken) in
+    ap descended (stepped-gap (s .pre .1 .0) (w .ensures .stepped) l (w .ensures .beyond l) (omega (arith, e, c .if3 .taken, c .before .exponent2 .ensures)))
 
--- src/finding.rt:97:62
-step-add-t21 : (t : ℕ) → step-lts.Need-add-t21 (claims t) (step-at t) step.Post
-step-add-t21 t c = search needs
+step-add-t14 : (t : ℕ) → step-lts.Need-add-t14 (claims t) (step-at t) step.Post
+step-add-t14 t c = search needs
 
--- src/finding.rt:97:13
-step-returns-3 : (t : ℕ) → step-lts.Need-returns-3 (claims t) (step-at t) step.Post
-step-returns-3 t c =
-    let s = c .before .before .before .before .before .before .before .before .before .before .before .before in
-    let a = s .args in
-    let e = read-at (a .query .now) (a .i .0) (s .pre .1 .1 .variable) in
-    let f = c .before .before .before .before .before .before .larger-from .ensures in
-    ap descended (reached-gap (a .n) (rows (a .n) (a .table .now)) (a .query .now) (a .i .0) (a .lo .0) (a .hi .0) (a .steps) (s .pre .1 .1) (s .pre .1 .0) (c .before .before .before .before .before .before .larger-from .result .0) f
-    (omega arith) (omega arith) (omega arith) (omega arith))
-
--- src/finding.rt:100:39
-step-add-t12 : (t : ℕ) → step-lts.Need-add-t12 (claims t) (step-at t) step.Post
-step-add-t12 t c = search needs
-
--- src/finding.rt:100:64
-step-add-descend : (t : ℕ) → step-lts.Need-add-descend (claims t) (step-at t) step.Post
-step-add-descend t c = search needs
-
--- src/finding.rt:100:5
 step-descend-requires : (t : ℕ) → step-lts.Need-descend-requires (claims t) (step-at t) step.Post
 step-descend-requires t c κs =
-    let s = c .before .before .before .before .before .before .before .before .before in
-    let a = s .args in
-    let f = c .before .before .before .larger-from .ensures in
-    (omega (arith, f .later, f .within), (omega arith, reached-shared (a .n) (rows (a .n) (a .table .now)) (a .query .now) (a .i .0) (a .lo .0) (a .hi .0) (a .steps) (s .pre .1 .1) (s .pre .1 .0) (c .before .before .before .larger-from .result .0) f))
+    let s = c .before .before .before .before .before .before .before .before .before .before .before .before in
+    let w = c .before .before .before .before .before .before .along in
+    let m = s .pre .0 in (
+      omega (arith, w .ensures .stepped .from, w .ensures .stepped .last .later, w .ensures .stepped .last .within),
+      (omega (arith, s .pre .1 .0), stepped-shared (s .pre .1 .0) (w .ensures .stepped)),
+    )
 
--- src/finding.rt:81:1
-step-returns-4 : (t : ℕ) → step-lts.Need-returns-4 (claims t) (step-at t) step.Post
-step-returns-4 t c =
-    let s = c .before .before .before .before .before .before .before .before .before .before in
+step-returns-3 : (t : ℕ) → step-lts.Need-returns-3 (claims t) (step-at t) step.Post
+step-returns-3 t c =
+    let s = c .before .before .before .before .before .before .before .before .before .before .before .before .before in
     let a = s .args in
     let e = read-at (a .query .now) (a .i .0) (s .pre .1 .1 .variable) in
-    let f = c .before .before .before .before .larger-from .ensures in
-    c .descend .ensures ∙ ap descended (reached-down (a .n) (rows (a .n) (a .table .now)) (a .query .now) (a .i .0) (a .lo .0) (a .hi .0) (a .steps) (s .pre .1 .1) (s .pre .1 .0) (c .before .before .before .before .larger-from .result .0) f
-    (omega (arith, c .before .before .before .before .before .if1 .left, c .before .before .before .before .before .before .before .exponent .ensures))
-    (λ l. ⊎-elim (λ w. omega (arith, w .2 .left, w .1 .ensures)) (λ w. omega (arith, w .left)) (c .before .if2 .came))
-    (λ l. ⊎-elim (λ w. omega (arith, w .3 .left, c .before .before .before .before .before .before .before .exponent .ensures)) (λ w. omega (arith, w .left)) (c .before .if2 .came)))
+    let w = c .before .before .before .before .before .before .before .along in
+    c .descend .ensures ∙ ap descended (stepped-down (s .pre .1 .0) (w .ensures .stepped) (w .ensures .beyond)
+    (λ l. ⊎-elim (λ y. omega (arith, e, y .2 .left, y .1 .ensures)) (λ y. omega (arith, y .left)) (c .before .if2 .came)))
 
 pub +descend+step-spec : {M : Type 1} → statement M
 +descend+step-spec =
@@ -181,18 +140,14 @@ pub +descend+step-spec : {M : Type 1} → statement M
     λ t. step-lts.spec (claims t)
     (step-at t)
     step.Post
-    (step-exponent-requires t)
     (step-sub-most t)
     (step-shared-slice-read-most t)
+    (step-exponent-requires t)
     (step-returns t)
-    (step-larger-from-requires t)
+    (step-along-requires t)
+    (step-add-taken t)
     (step-exponent-requires-2 t)
-    (step-add-step t)
-    (step-step-requires t)
     (step-returns-2 t)
-    (step-add-t21 t)
-    (step-returns-3 t)
-    (step-add-t12 t)
-    (step-add-descend t)
+    (step-add-t14 t)
     (step-descend-requires t)
-    (step-returns-4 t)
+    (step-returns-3 t)

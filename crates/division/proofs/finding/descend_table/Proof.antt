@@ -1,31 +1,21 @@
+-- All rows are the first group, before the first variable; without rows rule 6 ends there at once.
 use native.Mathlib.Omega.{arith}
-use borrow.Author.Tests.{le-ltb, lt-ltb, le-leb, lt-leb, eq-eqb, ne-eqb, ltb-true, ltb-false, leb-true, leb-false, eqb-true, eqb-false}
-use mathlib.Core.Path.{_≡_, refl, sym, ap, _∙_}
-use mathlib.Core.Logic.{⊎-elim}
-use mathlib.Core.List.{List, [], _∷_, _++_}
-use mathlib.Core.Bool.{Bool, true, false}
-use Prim.Native.Nat.{ℕ, zero, suc, _+_, _*_, _-_, _/_, _%_, _≤_, _<_}
-use lib.ListN.{length, take, drop, getD, set, replicate}
+use mathlib.Core.Path.{_≡_, ap, _∙_, subst}
+use Prim.Native.Nat.{ℕ, _/_, _<_}
+use lib.ListN.{length}
 use denote.Ref.{now}
 use borrow.Author.Needs.{needs}
 use Rattle.terms.specs.Rows.{rows}
 use Rattle.terms.proofs.RowsLaws.{length-rows}
-use Prim.Native.Nat.{_/_}
-use mathlib.Core.Path.{subst}
 use Rattle.division.specs.Descent.{descent}
 use Rattle.division.specs.Ranges.{Reached, after, descendFrom, descended}
-use Rattle.division.proofs.RangeLaws.{ready-empty, descent-all, reached-start}
+use Rattle.division.proofs.SteppingLaws.{ready-empty, descent-all, reached-start}
 use Rattle.division.proofs.finding.descend_table.Statement.{statement}
 use Rattle.division.proofs.finding.descend_table.Tie as tie
-use Rattle.division.proofs.finding.descend_table.Reads as reads
-use Rattle.division.proofs.finding.descend_table.Lts as lts
-use Rattle.division.proofs.finding.descend.Reads as descend-reads
 
--- src/finding.rt:119:17
 div-count : tie.Need-div-count
 div-count c = search needs
 
--- src/finding.rt:121:9
 returns : tie.Need-returns
 returns c =
     let s = c .before .before .before in
@@ -33,7 +23,6 @@ returns c =
     let e = length-rows (a .n) (a .table .now) in
     ap descended (ready-empty (a .n) (rows (a .n) (a .table .now)) (a .query .now) (s .pre .0) (omega (arith, c .if1 .taken)))
 
--- src/finding.rt:123:5
 descend-requires : tie.Need-descend-requires
 descend-requires c κs =
     let s = c .before .before .before in
@@ -45,13 +34,13 @@ descend-requires c κs =
           (reached-start (a .n) (rows (a .n) (a .table .now)) (a .query .now) (s .pre .0) (s .pre .1) p),
     )
 
--- src/finding.rt:115:1
 returns-2 : tie.Need-returns-2
 returns-2 c =
     let s = c .before .before .before .before in
     let a = s .args in
     let e = length-rows (a .n) (a .table .now) in
-    let f : after 0 (descendFrom (a .n) (rows (a .n) (a .table .now)) (a .query .now) 1 0 (length (a .table .now) / a .n)) ≡ descent (a .n) (rows (a .n) (a .table .now)) (a .query .now) =
+    let f : after 0 (descendFrom (a .n) (rows (a .n) (a .table .now)) (a .query .now) 1 0 (length (a .table .now) / a .n)) ≡ descent (a .n)
+    (rows (a .n) (a .table .now)) (a .query .now) =
     rw e at (descent-all (a .n) (rows (a .n) (a .table .now)) (a .query .now)) in
     c .descend .ensures ∙ ap descended f
 

@@ -1,38 +1,26 @@
+-- A refusal is the answer's number; otherwise the answer holds what the descent found, and its steps.
 use native.Mathlib.Omega.{arith}
-use borrow.Author.Tests.{le-ltb, lt-ltb, le-leb, lt-leb, eq-eqb, ne-eqb, ltb-true, ltb-false, leb-true, leb-false, eqb-true, eqb-false}
-use mathlib.Core.Path.{_≡_, refl, sym, ap, _∙_}
-use mathlib.Core.Logic.{⊎-elim}
-use mathlib.Core.List.{List, [], _∷_, _++_}
-use mathlib.Core.Bool.{Bool, true, false}
-use Prim.Native.Nat.{ℕ, zero, suc, _+_, _*_, _-_, _/_, _%_, _≤_, _<_}
-use lib.ListN.{length, take, drop, getD, set, replicate}
+use mathlib.Core.Path.{sym, _∙_, subst}
+use Prim.Native.Nat.{ℕ}
 use denote.Ref.{now}
 use borrow.Author.Needs.{needs}
-use mathlib.Core.Path.{subst}
-use Rattle.terms.specs.Rows.{rows}
 use Rattle.division.specs.Operations.{FindPromise}
 use Rattle.division.specs.declared.finding.FindAnswer.the-variants.{Refused}
-use Rattle.division.proofs.FindLaws.{find-accepts, find-refuses, find-ready, find-length, find-row, find-nothing}
+use Rattle.division.proofs.FindLaws.{find-refuses, find-ready, find-length, find-row, find-nothing}
 use Rattle.division.proofs.finding.find.Statement.{statement}
 use Rattle.division.proofs.finding.find.Tie as tie
-use Rattle.division.proofs.finding.find.Reads as reads
-use Rattle.division.proofs.finding.find.Lts as lts
-use Rattle.division.proofs.finding.descend_table.Reads as descend-table-reads
-use Rattle.division.proofs.finding.find_refusal.Reads as find-refusal-reads
 
--- src/finding.rt:156:9
 find-refusal-requires : tie.Need-find-refusal-requires
 find-refusal-requires c κs = search needs
 
--- src/finding.rt:158:9
 returns : tie.Need-returns
 returns c =
     let s = c .before .before .before .before in
     let a = s .args in
     let e = c .before .find-refusal .ensures in
-    subst (λ (m : ℕ). FindPromise (a .n) (a .table .now) (a .query .now) (Refused m)) (sym e) (find-refuses (a .n) (a .table .now) (a .query .now) (omega (arith, e, c .if1 .taken)))
+    subst (λ (m : ℕ). FindPromise (a .n) (a .table .now) (a .query .now) (Refused m)) (sym e)
+    (find-refuses (a .n) (a .table .now) (a .query .now) (omega (arith, e, c .if1 .taken)))
 
--- src/finding.rt:160:9
 descend-table-requires : tie.Need-descend-table-requires
 descend-table-requires c κs =
     let s = c .before .before .before .before in
@@ -40,15 +28,12 @@ descend-table-requires c κs =
     let e = sym (c .before .find-refusal .ensures) ∙ c .if1 .left in
     (find-ready (a .n) (a .table .now) (a .query .now) e, find-length (a .n) (a .table .now) (a .query .now) e)
 
--- src/finding.rt:164:20
 enum-known-found : tie.Need-enum-known-found
 enum-known-found c = search needs
 
--- src/finding.rt:165:27
 enum-told : tie.Need-enum-told
 enum-told c = search needs
 
--- src/finding.rt:153:1
 returns-2 : tie.Need-returns-2
 returns-2 c =
     let s = c .before .before .before .before .before .before .before .before in
@@ -57,7 +42,6 @@ returns-2 c =
     let d = c .before .before .before .descend-table in
     find-row (a .n) (a .table .now) (a .query .now) e (d .result) (d .ensures) _ (c .before .found .given .1)
 
--- src/finding.rt:153:1
 returns-3 : tie.Need-returns-3
 returns-3 c =
     let s = c .before .before .before .before .before .before .before in

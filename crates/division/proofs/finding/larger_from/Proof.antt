@@ -1,44 +1,25 @@
-use native.Mathlib.Omega.{arith}
-use borrow.Author.Tests.{le-ltb, lt-ltb, le-leb, lt-leb, eq-eqb, ne-eqb, ltb-true, ltb-false, leb-true, leb-false, eqb-true, eqb-false}
-use mathlib.Core.Path.{_≡_, refl, sym, ap, _∙_}
-use mathlib.Core.Logic.{⊎-elim}
-use mathlib.Core.List.{List, [], _∷_, _++_}
-use mathlib.Core.Bool.{Bool, true, false}
-use Prim.Native.Nat.{ℕ, zero, suc, _+_, _*_, _-_, _/_, _%_, _≤_, _<_}
-use lib.ListN.{length, take, drop, getD, set, replicate}
-use denote.Ref.{now}
+-- Two neighbouring rows that are a bracket of the range: since its exponents ascend, the second is the first later row with a larger exponent.
 use borrow.Author.Needs.{needs}
 use Rattle.terms.specs.Rows.{rows}
-use Rattle.division.proofs.RangeLaws.{larger-found}
+use Rattle.division.proofs.SteppingLaws.{between-within, larger-found}
 use Rattle.division.proofs.finding.larger_from.Statement.{statement}
 use Rattle.division.proofs.finding.larger_from.Tie as tie
-use Rattle.division.proofs.finding.larger_from.Reads as reads
-use Rattle.division.proofs.finding.larger_from.Lts as lts
-use Rattle.division.proofs.finding.gallop.Reads as gallop-reads
-use Rattle.division.proofs.finding.narrow.Reads as narrow-reads
-use Rattle.terms.proofs.exponent.Reads as exponent-reads
 
--- src/finding.rt:76:9
 exponent-requires : tie.Need-exponent-requires
 exponent-requires c κs = search needs
 
--- src/finding.rt:77:32
-gallop-requires : tie.Need-gallop-requires
-gallop-requires c κs = search needs
+enclose-requires : tie.Need-enclose-requires
+enclose-requires c κs = search needs
 
--- src/finding.rt:77:5
 narrow-requires : tie.Need-narrow-requires
 narrow-requires c κs = search needs
 
--- src/finding.rt:72:1
 returns : tie.Need-returns
 returns c =
     let s = c .before .before .before .before in
-    let a = s .args in
-    let b = c .before .gallop .result in
     let e = c .before .before .exponent .ensures in
-    larger-found (rows (a .n) (a .table .now)) (a .i .0) (a .lo .0) (a .hi .0) (b .low .0) (b .high .0) (c .narrow .result .0) (s .pre .4) (s .pre .3)
-    (rw e at (c .before .gallop .ensures)) (rw e at (c .narrow .ensures))
+    let b = between-within (c .before .enclose .ensures) (c .narrow .ensures) in
+    larger-found (c .narrow .result .0) (s .pre .4) (s .pre .3) (rw e at b)
 
 pub larger-from-spec : {M : Type 1} → statement M
-larger-from-spec = tie.close (tie.spec exponent-requires gallop-requires narrow-requires returns)
+larger-from-spec = tie.close (tie.spec exponent-requires enclose-requires narrow-requires returns)

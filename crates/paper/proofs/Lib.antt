@@ -1,4 +1,5 @@
--- The demands proved, and the paper's examples.
+-- The demands proved, the examples, and one result for each promise.
 pub mod EndToEnd
 pub mod Demands
 pub mod Examples
+pub mod OneResult

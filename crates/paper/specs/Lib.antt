@@ -1,3 +1,4 @@
--- What is promised, in one place.
+-- What is promised, in one place: the three demands, the starred examples, and that each promise allows one result.
 pub mod Demands
 pub mod Examples
+pub mod OneResult

@@ -7,12 +7,12 @@
 --   largest-below          the largest exponents are at most what each given exponent is
 --   completed-small        a completed table of rows with no exponent above 50 has no exponent above 50
 --   text-bound             the text of a table that passed the checks 1 to 4 has at most 94,229 bytes
-use mathlib.Core.Path.{_≡_, refl, sym, ap, _∙_}
-use mathlib.Core.Bool.{Bool, true, false}
+use mathlib.Core.Path.{_≡_, refl, sym, ap}
+use mathlib.Core.Bool.{Bool}
 use mathlib.Core.List.{List, [], _∷_, _++_, append-assoc, List·Memᴰ·head, List·Memᴰ·tail}
-use mathlib.Core.Logic.{by-cases, ⊎-elim}
+use mathlib.Core.Logic.{by-cases}
 use Prim.Native.Nat.{ℕ, zero, suc, _+_, _*_, _/_, _^_, _≤_, _<_}
-use native.Mathlib.Nat.{le-of-suc-le-suc, max-le, le-trans, pow-le-pow-right}
+use native.Mathlib.Nat.{max-le, le-trans, pow-le-pow-right}
 use native.Mathlib.Decide.{decLe, decLt}
 use native.Mathlib.Omega.{arith}
 use lib.ListN.{length, getD, replicate, length-append, List·getD-eq-default}
@@ -21,7 +21,7 @@ use Rattle.terms.specs.Monomials.{Monomial, Table, _!_, _∈_, rowAt, OfSize, d
 use Rattle.terms.specs.Rows.{rows}
 use Rattle.terms.proofs.RowsLaws.{member-at, member-index, rows-size, row-within, entry-at}
 use Rattle.terms.proofs.RefusalLaws.{TableAccepted}
-use Rattle.division.specs.Janet.{tableMarks, marksOf}
+use Rattle.division.specs.Janet.{tableMarks}
 use Rattle.division.proofs.MarksLaws.{tableMarks-at, marksOf-below}
 use Rattle.completion.specs.Completed.{completed, joined, largest}
 use Rattle.completion.specs.Operation.{completedOf}
@@ -173,10 +173,14 @@ module _ (n j : ℕ) (t : List ℕ) (a : TableAccepted n t) where
   row-bound : (k : ℕ) → k < length (completedOf n t) → length (rowLine (rowAt (completedOf n t) k) (getD (tableMarks n (completedOf n t)) k 0)) ≤ 23
   row-bound k h =
       let z = rows-size n t in
-      let m = member-at (completedOf n t) [] k h in
+      let H : Table = completedOf n t in
+      let u : Monomial = rowAt H k in
+      let m : u ∈ H = member-at H [] k h in
       let power : 2 ^ n ≤ 64 = pow-le n (a .few) in
-      rowLine-bound (rowAt (completedOf n t) k) (getD (tableMarks n (completedOf n t)) k 0) (omega (arith, completion-size (completed-table n (rows n t) z) (rowAt (completedOf n t) k) m, a .few))
-      (completed-small n (rows n t) z (rows-small n t a) (rowAt (completedOf n t) k) m) (omega (arith, tableMarks-at n (completedOf n t) k h, marksOf-below n (completedOf n t) (rowAt (completedOf n t) k)))
+      rowLine-bound u (getD (tableMarks n H) k 0)
+      (omega (arith, completion-size (completed-table n (rows n t) z) u m, a .few))
+      (completed-small n (rows n t) z (rows-small n t a) u m)
+      (omega (arith, tableMarks-at n H k h, marksOf-below n H u))
 
   steady-bound : steadyOf (completedOf n t) ≤ 300
   steady-bound = steady-least (completedOf n t) 300 (λ u m.

@@ -19,6 +19,11 @@ use Rattle.bundle.specs.Format.{rowCount, offsetOf, placeOf}
 use Rattle.bundle.specs.Checks.{tablesChecks}
 use Rattle.listing.specs.Text.{digitsOf, decimal, fields, tableLine, rowLine, steadyLine, noRoomLine, refusalLine, rowLines, wholeText, completedText, tableText, tablesText, bundleText}
 
+-- the output, with every definition that it rests on open to computation
+unfoldable output : List ℕ → List ℕ
+unfolding bundleText tablesText tableText completedText wholeText rowLines tableLine rowLine steadyLine noRoomLine refusalLine fields decimal digitsOf refusal tablesChecks rowCount offsetOf placeOf rows firstRows completed completedTest entersTest candidate largest joined box behind repeated insideTest dividesTest tableMarks marksOf marksByte multiplicativeTest group sameBeforeTest steadyOf degree
+output b = bundleText b
+
 -- T 0 2 3, 0 2 : 2, 1 2 : 2, 2 1 : 3, S 3
 abbrev pub fiveLines : List ℕ
 fiveLines =
@@ -29,7 +34,7 @@ fiveLines =
     ++ (83 ∷ 32 ∷ 51 ∷ 10 ∷ [])
 
 pub listing : bundleText (2 ∷ 1 ∷ 2 ∷ 0 ∷ 6 ∷ 0 ∷ 2 ∷ 1 ∷ 0 ∷ 2 ∷ []) ≡ fiveLines
-unfolding bundleText tablesText tableText completedText wholeText rowLines tableLine rowLine steadyLine noRoomLine refusalLine fields decimal digitsOf refusal tablesChecks rowCount offsetOf placeOf rows firstRows completed completedTest entersTest candidate largest joined box behind repeated insideTest dividesTest tableMarks marksOf marksByte multiplicativeTest group sameBeforeTest steadyOf degree
+unfolding output
 listing = refl
 
 -- a second table, with the rows 3 0 and 0 3: T 1 2 4, 0 3 : 2, 1 3 : 2, 2 3 : 2, 3 0 : 3, S 5
@@ -40,15 +45,15 @@ pub listing-two : bundleText (2 ∷ 2 ∷ 2 ∷ 0 ∷ 10 ∷ 0 ∷ 2 ∷ 0 ∷ 1
     ++ (50 ∷ 32 ∷ 51 ∷ 32 ∷ 58 ∷ 32 ∷ 50 ∷ 10 ∷ [])
     ++ (51 ∷ 32 ∷ 48 ∷ 32 ∷ 58 ∷ 32 ∷ 51 ∷ 10 ∷ [])
     ++ (83 ∷ 32 ∷ 53 ∷ 10 ∷ [])
-unfolding bundleText tablesText tableText completedText wholeText rowLines tableLine rowLine steadyLine noRoomLine refusalLine fields decimal digitsOf refusal tablesChecks rowCount offsetOf placeOf rows firstRows completed completedTest entersTest candidate largest joined box behind repeated insideTest dividesTest tableMarks marksOf marksByte multiplicativeTest group sameBeforeTest steadyOf degree
+unfolding output
 listing-two = refl
 
 -- R 9
 pub listing-empty-input : bundleText [] ≡ (82 ∷ 32 ∷ 57 ∷ 10 ∷ [])
-unfolding bundleText tablesText tableText completedText wholeText rowLines tableLine rowLine steadyLine noRoomLine refusalLine fields decimal digitsOf refusal tablesChecks rowCount offsetOf placeOf rows firstRows completed completedTest entersTest candidate largest joined box behind repeated insideTest dividesTest tableMarks marksOf marksByte multiplicativeTest group sameBeforeTest steadyOf degree
+unfolding output
 listing-empty-input = refl
 
 -- T 0 0 0, S 0
 pub listing-empty-table : bundleText (1 ∷ 1 ∷ 0 ∷ 0 ∷ 6 ∷ 0 ∷ []) ≡ (84 ∷ 32 ∷ 48 ∷ 32 ∷ 48 ∷ 32 ∷ 48 ∷ 10 ∷ []) ++ (83 ∷ 32 ∷ 48 ∷ 10 ∷ [])
-unfolding bundleText tablesText tableText completedText wholeText rowLines tableLine rowLine steadyLine noRoomLine refusalLine fields decimal digitsOf refusal tablesChecks rowCount offsetOf placeOf rows firstRows completed completedTest entersTest candidate largest joined box behind repeated insideTest dividesTest tableMarks marksOf marksByte multiplicativeTest group sameBeforeTest steadyOf degree
+unfolding output
 listing-empty-table = refl

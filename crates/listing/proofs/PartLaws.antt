@@ -7,13 +7,13 @@
 --   part-written           a text written from the start that is part j keeps the promise
 --   part-unique, part-front   the promise allows one result, and the front of the buffer is the part
 --   bundle-parts           the whole output is its 16 parts, one behind the other
-use mathlib.Core.Path.{_≡_, refl, sym, ap, _∙_, subst}
-use mathlib.Core.Bool.{Bool, true, false}
-use mathlib.Core.List.{List, [], _∷_, _++_, append-nil}
+use mathlib.Core.Path.{_≡_, refl, sym, ap, _∙_}
+use mathlib.Core.Bool.{Bool}
+use mathlib.Core.List.{List, [], _++_, append-nil}
 use mathlib.Core.Logic.{by-cases}
 use Prim.Native.Nat.{ℕ, zero, suc, _+_, _*_, _-_, _≤_, _<_}
 use native.Mathlib.Nat.{add-sub-cancel-left, zero-add, suc-add}
-use native.Mathlib.Decide.{decLt, ℕ-discrete}
+use native.Mathlib.Decide.{ℕ-discrete}
 use native.Mathlib.Omega.{arith}
 use lib.Dec.{eqb, ltb}
 use lib.ListN.{length, take, drop, length-append}
@@ -22,14 +22,14 @@ use Rattle.terms.specs.Tests.{pick, tests-lt, tests-eq, tests-true, tests-false
 use Rattle.terms.specs.Rows.{rows}
 use Rattle.terms.specs.Refusals.{refusal, tableChecks}
 use Rattle.terms.proofs.RefusalLaws.{accepted, table-accepted, refusal-append, refusal-passes}
-use Rattle.bundle.specs.Format.{variablesOf, tableCount, rowCount, placeOf, bodyLength, bodyOf, tableOf}
+use Rattle.bundle.specs.Format.{variablesOf, tableCount, bodyOf, tableOf}
 use Rattle.bundle.specs.Checks.{bundleChecks, numberChecks, openChecks}
-use Rattle.bundle.specs.Operation.{LocatePromise, FoundWithin}
+use Rattle.bundle.specs.Operation.{LocatePromise}
 use Rattle.bundle.specs.declared.Located.{Located}
 use Rattle.bundle.proofs.CheckLaws.{refusal-none}
 use Rattle.bundle.proofs.AcceptedLaws.{accepted-bundle, table-passes-checks}
 use Rattle.bundle.proofs.ReadLaws.{opened-is, open-accepted, body-shown}
-use Rattle.listing.specs.Text.{decimal, refusalLine, tableText, tablesText, bundleText, partText, partsText}
+use Rattle.listing.specs.Text.{refusalLine, tableText, tablesText, bundleText, partText, partsText}
 use Rattle.listing.specs.Written.{written, Wrote}
 use Rattle.listing.specs.Operation.{PartPromise}
 use Rattle.listing.proofs.TextLaws.{refusalLine-length}

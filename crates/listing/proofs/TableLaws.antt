@@ -5,15 +5,15 @@
 --   made-rows              an accepted completion
 --   made-none              a completion into 4,096 rows that is refused, of a table that passed the checks 1 to 4
 use mathlib.Core.Path.{_≡_, refl, sym, ap, _∙_, subst}
-use mathlib.Core.List.{List, [], _∷_, _++_}
+use mathlib.Core.List.{List, _++_}
 use mathlib.Core.Logic.{by-cases}
-use Prim.Native.Nat.{ℕ, zero, suc, _+_, _*_, _/_, _≤_, _<_, min}
-use native.Mathlib.Nat.{le-min, le-div-iff-mul-le, min-le-left, mul-le-mul-left}
+use Prim.Native.Nat.{ℕ, zero, suc, _+_, _*_, _/_, _≤_, _<_}
+use native.Mathlib.Nat.{le-min, le-div-iff-mul-le, min-le-left}
 use native.Mathlib.Decide.{decLe}
 use native.Mathlib.Omega.{arith}
-use lib.ListN.{length, take, drop, getD, length-append, List·getD-append}
+use lib.ListN.{length, take, drop, length-append, List·getD-append}
 use lib.Seq.{take-at}
-use Rattle.terms.specs.Monomials.{Table, rowAt}
+use Rattle.terms.specs.Monomials.{Table}
 use Rattle.terms.specs.Order.{Ascending}
 use Rattle.terms.specs.Rows.{rows, flat}
 use Rattle.terms.specs.Refusals.{refusal, Accepts, tableChecks}
@@ -22,13 +22,13 @@ use Rattle.terms.proofs.RefusalLaws.{TableAccepted, table-accepted, accepted}
 use Rattle.division.specs.Janet.{tableMarks}
 use Rattle.division.specs.Marking.{marked}
 use Rattle.division.proofs.MarksLaws.{length-tableMarks}
-use Rattle.completion.specs.Operation.{roomFor, completedOf, completeChecks, CompletePromise}
+use Rattle.completion.specs.Operation.{roomFor, completedOf, CompletePromise}
 use Rattle.completion.specs.declared.CompleteAnswer.{CompleteAnswer}
 use Rattle.completion.specs.declared.CompleteAnswer.the-variants.{Rows, Refused}
 use Rattle.completion.proofs.CompletedLaws.{completed-table}
 use Rattle.completion.proofs.OperationLaws.{complete-unique, complete-accepts, complete-count, complete-kept, complete-length, room-enough, room-fits, accepted-room, completedOf-size}
 use Rattle.counting.specs.Counts.{steadyOf}
-use Rattle.listing.specs.Text.{rowLine, rowLines, tableLine, steadyLine, wholeText, completedText, tableText}
+use Rattle.listing.specs.Text.{rowLines, tableLine, steadyLine, wholeText, completedText, tableText}
 use Rattle.listing.proofs.BoundLaws.{tableText-room}
 
 -- ---- marks

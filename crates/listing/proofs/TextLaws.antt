@@ -1,6 +1,7 @@
 -- Laws of numbers and lines as text.
 --
 --   decimal-one, decimal-more   a number below 10 is one digit; another is the number of its tens and then one digit
+--   decimal-value, decimal-injective   read as digits it is the number, so the digits tell numbers apart
 --   number-one, number-more     so a number is written digit by digit
 --   field x                one space and a number
 --   tableLine-parts ..     each line as it is written, part by part; tableLine-length ..: how long it is
@@ -9,18 +10,17 @@
 --   row-read, row-variables     a row that was read from a table has its exponents and its n
 use mathlib.Core.Path.{_≡_, refl, sym, ap, _∙_}
 use mathlib.Core.List.{List, [], _∷_, _++_, map, append-assoc}
-use mathlib.Core.Logic.{by-cases, ⊎-elim}
+use mathlib.Core.Logic.{⊎-elim}
 use Prim.Native.Nat.{ℕ, zero, suc, _+_, _-_, _*_, _/_, _%_, _≤_, _<_}
-use native.Mathlib.Nat.{div-eq-of-lt, mod-eq-of-lt, div-lt-iff-lt-mul, le-of-suc-le-suc, not-suc-le-zero, eq-or-lt-of-le}
+use native.Mathlib.Nat.{div-eq-of-lt, mod-eq-of-lt, le-of-suc-le-suc, not-suc-le-zero, eq-or-lt-of-le}
 use native.Mathlib.Numerals.{add-one}
-use native.Mathlib.Decide.{decLt}
 use native.Mathlib.Omega.{arith}
 use lib.ListN.{length, take, drop, getD, replicate, length-append, take-append-drop}
 use lib.Seq.{take-suc, take-take, take-at}
 use Rattle.terms.specs.Monomials.{Monomial, Table, rowAt}
 use Rattle.terms.specs.Rows.{padded, asRow}
 use Rattle.terms.specs.declared.Row.{Row}
-use Rattle.listing.specs.Text.{digit, digitsOf, decimal, space, lineFeed, fields, letterT, letterS, letterR, colon, tableLine, rowLine, steadyLine, noRoomLine, refusalLine, rowLines}
+use Rattle.listing.specs.Text.{digit, digitsOf, decimal, valueFrom, space, lineFeed, fields, letterT, letterS, letterR, colon, tableLine, rowLine, steadyLine, noRoomLine, refusalLine, rowLines}
 use Rattle.listing.specs.Written.{Wrote, spaced}
 use Rattle.listing.proofs.WrittenLaws.{wrote-as, wrote-then}
 
@@ -60,6 +60,30 @@ digits-decimal (suc f) (suc x) p h =
 pub decimal-more : (x : ℕ) → 10 ≤ x → decimal x ≡ decimal (x / 10) ++ (digit (x % 10) ∷ [])
 unfolding decimal
 decimal-more x h = ap (λ (l : List ℕ). l ++ (digit (x % 10) ∷ [])) (digits-decimal x (x / 10) (omega arith) (omega arith))
+
+-- ---- a decimal is the number
+
+value-snoc : (v : ℕ) (l : List ℕ) (d : ℕ) → valueFrom v (l ++ (d ∷ [])) ≡ 10 * valueFrom v l + (d - 48)
+unfolding valueFrom
+value-snoc v [] d = refl
+value-snoc v (e ∷ l) d = value-snoc (10 * v + (e - 48)) l d
+
+digits-value : (f x : ℕ) → x ≤ f → valueFrom 0 (digitsOf f x) ≡ x
+unfolding digitsOf valueFrom
+digits-value zero x h = omega arith
+digits-value (suc f) zero h = refl
+digits-value (suc f) (suc x) h =
+    omega (arith, value-snoc 0 (digitsOf f (suc x / 10)) (digit (suc x % 10)), digits-value f (suc x / 10) (omega (arith, tens-less x)))
+
+pub decimal-value : (x : ℕ) → valueFrom 0 (decimal x) ≡ x
+unfolding decimal
+decimal-value x = omega (arith, value-snoc 0 (digitsOf x (x / 10)) (digit (x % 10)), digits-value x (x / 10) (omega arith))
+
+-- so two numbers with the same digits are the same
+pub decimal-injective : (x y : ℕ) → decimal x ≡ decimal y → x ≡ y
+decimal-injective x y e = sym (decimal-value x) ∙ ap (valueFrom 0) e ∙ decimal-value y
+
+-- ---- how many digits
 
 pub decimal-one-length : (x : ℕ) → x < 10 → length (decimal x) ≡ 1
 decimal-one-length x h = rw (decimal-one x h)

@@ -6,12 +6,12 @@
 --   wrote-front            the front of the buffer after a text written from its start is that text
 use mathlib.Core.Path.{_≡_, refl, sym, ap, _∙_}
 use mathlib.Core.List.{List, [], _∷_, _++_, append-assoc}
-use Prim.Native.Nat.{ℕ, suc, _+_, _-_, _≤_, _<_}
+use Prim.Native.Nat.{ℕ, _+_, _≤_, _<_}
 use native.Mathlib.Nat.{add-zero}
 use native.Mathlib.Numerals.{add-one}
 use native.Mathlib.Omega.{arith}
 use lib.ListN.{length, take, drop, set, length-append, length-drop, take-append-drop}
-use lib.Seq.{length-take-le, take-at, drop-at, drop-drop, drop-append-le, set-split}
+use lib.Seq.{length-take-le, take-at, drop-at, drop-drop, set-split}
 use Rattle.listing.specs.Written.{written, Wrote}
 
 pub length-written : (o : List ℕ) (at : ℕ) (s : List ℕ) → at + length s ≤ length o → length (written o at s) ≡ length o

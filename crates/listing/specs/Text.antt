@@ -1,6 +1,7 @@
 -- The text that the program writes, as bytes.
 --
 --   decimal x        the decimal digits of x in ASCII, without zeros in front; 0 is one digit
+--   valueFrom v l    the number that the digits l give behind the number v
 --   fields l         the fields of l, parted by one space
 --   line l           those fields and a line feed
 --   tableLine, rowLine, steadyLine   the lines of a table: `T` and its numbers, a completed row with its marks, `S` and the steady degree
@@ -15,8 +16,8 @@
 --   partText b j     its part j: what is written of table j, and of a refused bundle the whole in part 0
 --   partsText b j m  the parts j to j + m − 1
 use mathlib.Core.List.{List, [], _∷_, _++_, map}
-use Prim.Native.Nat.{ℕ, zero, suc, _+_, _/_, _%_}
-use lib.Dec.{leb, ltb, eqb}
+use Prim.Native.Nat.{ℕ, zero, suc, _+_, _*_, _-_, _/_, _%_}
+use lib.Dec.{ltb, eqb}
 use lib.ListN.{length, getD}
 use Rattle.terms.specs.Tests.{pick}
 use Rattle.terms.specs.Monomials.{Monomial, Table, rowAt}
@@ -41,6 +42,11 @@ digitsOf (suc f) (suc x) = digitsOf f (suc x / 10) ++ (digit (suc x % 10) ∷ []
 
 unfoldable pub decimal : ℕ → List ℕ
 decimal x = digitsOf x (x / 10) ++ (digit (x % 10) ∷ [])
+
+-- the number that digits give, read behind the number v
+unfoldable pub valueFrom : ℕ → List ℕ → ℕ
+valueFrom v [] = v
+valueFrom v (d ∷ l) = valueFrom (10 * v + (d - 48)) l
 
 abbrev pub space : ℕ
 space = 32

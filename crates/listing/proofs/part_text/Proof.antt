@@ -15,36 +15,47 @@ bundle-refusal-requires c κs = search needs
 
 returns : tie.Need-returns
 returns c =
-    let a = c .before .before .before .before .args in
-    part-written (a .bundle .now) (a .j) (wrote-nothing (a .out .now) 0) (part-silent (a .bundle .now) (a .j) (c .before .before .bundle-refusal .ensures) (c .before .if1 .taken) (c .if2 .taken))
+    let checked = c .before .before in
+    let a = checked .before .before .args in
+    part-written (a .bundle .now) (a .j) (wrote-nothing (a .out .now) 0)
+    (part-silent (a .bundle .now) (a .j) (checked .bundle-refusal .ensures) (c .before .if1 .taken) (c .if2 .taken))
 
 put-refusal-line-requires : tie.Need-put-refusal-line-requires
 put-refusal-line-requires c κs =
-    let size : length (c .before .before .before .before .before .args .out .now) ≡ 94229 = search needs in
-    omega (arith, refusalLine-bound (c .before .before .before .bundle-refusal .result) (search needs))
+    let checked = c .before .before .before in
+    let size : length (checked .before .before .args .out .now) ≡ 94229 = search needs in
+    omega (arith, refusalLine-bound (checked .bundle-refusal .result) (search needs))
 
 returns-2 : tie.Need-returns-2
 returns-2 c =
-    let a = c .before .before .before .before .before .before .args in
-    part-written (a .bundle .now) (a .j) (c .put-refusal-line .ensures) (part-refused (a .bundle .now) (a .j) (c .before .before .before .before .bundle-refusal .ensures) (c .before .before .before .if1 .taken) (c .before .before .if2 .left))
+    let first = c .before .before in
+    let checked = first .before .before in
+    let a = checked .before .before .args in
+    part-written (a .bundle .now) (a .j) (c .put-refusal-line .ensures)
+    (part-refused (a .bundle .now) (a .j) (checked .bundle-refusal .ensures) (first .before .if1 .taken) (first .if2 .left))
 
 locate-requires : tie.Need-locate-requires
 locate-requires c κs = search needs
 
 returns-3 : tie.Need-returns-3
 returns-3 c =
-    let a = c .before .before .before .before .before .before .args in
-    part-written (a .bundle .now) (a .j) (wrote-nothing (a .out .now) 0) (part-none (a .bundle .now) (a .j) (c .before .before .before .before .bundle-refusal .ensures) (c .before .before .before .if1 .left) (c .before .before .locate .ensures) (c .if3 .taken))
+    let found = c .before .before in
+    let checked = found .before .before in
+    let a = checked .before .before .args in
+    part-written (a .bundle .now) (a .j) (wrote-nothing (a .out .now) 0)
+    (part-none (a .bundle .now) (a .j) (checked .bundle-refusal .ensures) (found .before .if1 .left) (found .locate .ensures) (c .if3 .taken))
 
 mul-size : tie.Need-mul-size
 mul-size c =
-    let a = c .before .before .before .before .before .before .before .args in
-    omega (arith, found-within (a .bundle .now) (a .j) (c .before .before .before .locate .result) (c .before .before .before .locate .ensures))
+    let found = c .before .before .before in
+    let a = found .before .before .before .before .args in
+    omega (arith, found-within (a .bundle .now) (a .j) (found .locate .result) (found .locate .ensures))
 
 add-end : tie.Need-add-end
 add-end c =
-    let a = c .before .before .before .before .before .before .before .args in
-    omega (arith, found-within (a .bundle .now) (a .j) (c .before .before .before .locate .result) (c .before .before .before .locate .ensures))
+    let found = c .before .before .before in
+    let a = found .before .before .before .before .args in
+    omega (arith, found-within (a .bundle .now) (a .j) (found .locate .result) (found .locate .ensures))
 
 sub-put-table : tie.Need-sub-put-table
 sub-put-table c = search needs
@@ -54,20 +65,27 @@ part-put-table-start c = search needs
 
 part-put-table-end : tie.Need-part-put-table-end
 part-put-table-end c =
-    let a = c .before .before .before .before .before .before .before .before .args in
-    found-within (a .bundle .now) (a .j) (c .before .before .before .before .locate .result) (c .before .before .before .before .locate .ensures)
+    let found = c .before .before .before .before in
+    let a = found .before .before .before .before .args in
+    found-within (a .bundle .now) (a .j) (found .locate .result) (found .locate .ensures)
 
 put-table-requires : tie.Need-put-table-requires
 put-table-requires c κs =
-    let a = c .before .before .before .before .before .before .before .before .before .args in
+    let accepted = c .before .before .before in
+    let found = accepted .before .before in
+    let checked = found .before .before in
+    let a = checked .before .before .args in
     let size : length (a .out .now) ≡ 94229 = search needs in
-    let f = part-found (a .bundle .now) (a .j) (c .before .before .before .before .before .before .before .bundle-refusal .ensures) (c .before .before .before .before .before .before .if1 .left) (c .before .before .before .before .before .locate .ensures) (c .before .before .before .if3 .left) in
+    let f = part-found (a .bundle .now) (a .j) (checked .bundle-refusal .ensures) (found .before .if1 .left) (found .locate .ensures) (accepted .if3 .left) in
     (f .checks, omega (arith, f .bound))
 
 returns-4 : tie.Need-returns-4
 returns-4 c =
-    let a = c .before .before .before .before .before .before .before .before .before .before .args in
-    let f = part-found (a .bundle .now) (a .j) (c .before .before .before .before .before .before .before .before .bundle-refusal .ensures) (c .before .before .before .before .before .before .before .if1 .left) (c .before .before .before .before .before .before .locate .ensures) (c .before .before .before .before .if3 .left) in
+    let accepted = c .before .before .before .before in
+    let found = accepted .before .before in
+    let checked = found .before .before in
+    let a = checked .before .before .args in
+    let f = part-found (a .bundle .now) (a .j) (checked .bundle-refusal .ensures) (found .before .if1 .left) (found .locate .ensures) (accepted .if3 .left) in
     part-written (a .bundle .now) (a .j) (c .put-table .ensures) (f .text)
 
 pub part-text-spec : {M : Type 1} → statement M

@@ -34,8 +34,10 @@ same-length c = search needs
 
 returns : tie.Need-returns
 returns c =
-    let a = c .before .before .before .before .before .before .before .before .before .before .before .args in
-    wrote-as (c .before .before .put-whole .ensures) (marked-text (a .n) (a .j) (length (rows (a .n) (a .given .now))) (rows (a .n) (a .table .now)) _ (c .before .before .before .before .before .before .mark-ascending .ensures))
+    let marked = c .before .before .before .before .before .before in
+    let a = marked .before .before .before .before .before .args in
+    wrote-as (c .before .before .put-whole .ensures)
+    (marked-text (a .n) (a .j) (length (rows (a .n) (a .given .now))) (rows (a .n) (a .table .now)) _ (marked .mark-ascending .ensures))
 
 pub put-completed-spec : {M : Type 1} → statement M
 put-completed-spec =

@@ -24,48 +24,68 @@ enum-known-count c = search needs
 
 mul-size : tie.Need-mul-size
 mul-size c =
-    let m = made-rows (c .before .before .before .before .before .before .before .before .pre .0) (c .before .before .before .before .complete .ensures) (c .before .count .given .1) in
+    let answer = c .before .before .before .before in
+    let start = answer .before .before .before .before in
+    let m = made-rows (start .pre .0) (answer .complete .ensures) (c .before .count .given .1) in
     omega (arith, m .fits)
 
 array-share-prefix-made : tie.Need-array-share-prefix-made
-array-share-prefix-made c = made-rows (c .before .before .before .before .before .before .before .before .before .pre .0) (c .before .before .before .before .before .complete .ensures) (c .before .before .count .given .1) .fits
+array-share-prefix-made c =
+    let answer = c .before .before .before .before .before in
+    let start = answer .before .before .before .before in
+    made-rows (start .pre .0) (answer .complete .ensures) (c .before .before .count .given .1) .fits
 
 slice-aggregate-put-completed : tie.Need-slice-aggregate-put-completed
-slice-aggregate-put-completed c = sym (made-rows (c .before .before .before .before .before .before .before .before .before .before .pre .0) (c .before .before .before .before .before .before .complete .ensures) (c .before .before .before .count .given .1) .size)
+slice-aggregate-put-completed c =
+    let answer = c .before .before .before .before .before .before in
+    let start = answer .before .before .before .before in
+    sym (made-rows (start .pre .0) (answer .complete .ensures) (c .before .before .before .count .given .1) .size)
 
 put-completed-requires : tie.Need-put-completed-requires
 put-completed-requires c κs =
-    let s = c .before .before .before .before .before .before .before .before .before .before in
-    let m = made-rows (s .pre .0) (c .before .before .before .before .before .before .complete .ensures) (c .before .before .before .count .given .1) in
-    let text = made-text (s .args .j) m in
-    (m .some, m .few, subst (λ (H : Table). Ascending H) (sym (m .same)) (m .ascends), omega (arith, ap length (m .same), m .limited), omega (arith, ap length text, s .pre .1))
+    let answer = c .before .before .before .before .before .before in
+    let start = answer .before .before .before .before in
+    let m = made-rows (start .pre .0) (answer .complete .ensures) (c .before .before .before .count .given .1) in
+    let text = made-text (start .args .j) m in (
+      m .some,
+      m .few,
+      subst (λ (H : Table). Ascending H) (sym (m .same)) (m .ascends),
+      omega (arith, ap length (m .same), m .limited),
+      omega (arith, ap length text, start .pre .1),
+    )
 
 enum-told : tie.Need-enum-told
 enum-told c = search needs
 
 put-no-room-line-requires : tie.Need-put-no-room-line-requires
 put-no-room-line-requires c κs =
-    let s = c .before .before .before .before .before .before .before .before in
-    let l = made-none (s .pre .0) (c .before .before .before .before .complete .ensures) (c .before .enum-told .given .1) (search needs) in
-    omega (arith, ap length (tableText-full (s .args .n) (s .args .j) (rows (s .args .n) (s .args .table .now)) l), s .pre .1)
+    let answer = c .before .before .before .before in
+    let start = answer .before .before .before .before in
+    let a = start .args in
+    let more = made-none (start .pre .0) (answer .complete .ensures) (c .before .enum-told .given .1) (search needs) in
+    omega (arith, ap length (tableText-full (a .n) (a .j) (rows (a .n) (a .table .now)) more), start .pre .1)
 
 same-length : tie.Need-same-length
 same-length c = search needs
 
 returns : tie.Need-returns
 returns c =
-    let s = c .before .before .before .before .before .before .before .before .before .before .before .before .before in
-    let m = made-rows (s .pre .0) (c .before .before .before .before .before .before .before .before .before .complete .ensures) (c .before .before .before .before .before .before .count .given .1) in
-    wrote-as (c .before .before .put-completed .ensures) (made-text (s .args .j) m)
+    let made = c .before .before .before .before .before .before in
+    let answer = made .before .before .before in
+    let start = answer .before .before .before .before in
+    wrote-as (c .before .before .put-completed .ensures) (made-text (start .args .j) (made-rows (start .pre .0) (answer .complete .ensures) (made .count .given .1)))
 
 same-length-2 : tie.Need-same-length-2
 same-length-2 c = search needs
 
 returns-2 : tie.Need-returns-2
 returns-2 c =
-    let s = c .before .before .before .before .before .before .before .before .before .before .before in
-    let l = made-none (s .pre .0) (c .before .before .before .before .before .before .before .complete .ensures) (c .before .before .before .before .enum-told .given .1) (search needs) in
-    wrote-as (c .before .before .put-no-room-line .ensures) (sym (tableText-full (s .args .n) (s .args .j) (rows (s .args .n) (s .args .table .now)) l))
+    let told = c .before .before .before .before in
+    let answer = told .before .before .before in
+    let start = answer .before .before .before .before in
+    let a = start .args in
+    let more = made-none (start .pre .0) (answer .complete .ensures) (told .enum-told .given .1) (search needs) in
+    wrote-as (c .before .before .put-no-room-line .ensures) (sym (tableText-full (a .n) (a .j) (rows (a .n) (a .table .now)) more))
 
 pub put-table-spec : {M : Type 1} → statement M
 put-table-spec =

@@ -44,6 +44,10 @@ pub times-large : (x n : ℕ) → 0 < n → x ≤ x * n
 times-large x zero h = absurd (not-suc-le-zero h)
 times-large x (suc n) h = let e : x * suc n ≡ x * n + x = omega arith in omega arith
 
+pub times-less : (x n : ℕ) → 0 < n → x * n ≡ x * (n - 1) + x
+times-less x zero h = absurd (not-suc-le-zero h)
+times-less x (suc n) h = let e : suc n - 1 ≡ n = omega arith in rw e (omega arith)
+
 pub rows-before : (x y end n : ℕ) → x + y ≤ end → x * n + y * n ≤ end * n
 rows-before x y end n h = let m : (x + y) * n ≤ end * n = mul-le-mul-right n h in let e : (x + y) * n ≡ x * n + y * n = add-mul x y n in omega arith
 

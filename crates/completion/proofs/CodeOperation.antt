@@ -147,3 +147,9 @@ pub copied-fits : {n : ℕ} {table : List ℕ} {count : ℕ} {out : List ℕ} {r
 copied-fits {n} {count = count} h size l =
     let f : count * n ≤ count * 21 = mul-le-mul-left count (omega (arith, h .few)) in
     omega arith
+
+-- the chains of all levels but the last fit
+pub links-fit : {n : ℕ} {table : List ℕ} {count : ℕ} {out : List ℕ} {room : ℕ} → Collects n table count out room → (size : ℕ) → count * 5 ≤ size → count * (n - 1) ≤ size
+links-fit {n} {count = count} h size l =
+    let f : count * (n - 1) ≤ count * 5 = mul-le-mul-left count (omega (arith, h .few)) in
+    omega arith

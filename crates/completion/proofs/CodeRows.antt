@@ -268,7 +268,7 @@ front-of y z b d rest h l e = sym (take-take y z b h) ∙ ap (λ (x : List ℕ).
 
 -- ---- rows written one by one
 
-flat-snoc : (G : Table) (u : Monomial) → flat (G ++ (u ∷ [])) ≡ flat G ++ u
+pub flat-snoc : (G : Table) (u : Monomial) → flat (G ++ (u ∷ [])) ≡ flat G ++ u
 unfolding flat
 flat-snoc G u = flat-append G (u ∷ []) ∙ ap (λ (l : List ℕ). flat G ++ l) (append-nil u)
 
@@ -295,7 +295,7 @@ compact-more n rest first i to out b c d h g f e p =
     ∙ take-paste b (to + i * rest) (drop (x + (n - rest)) out) rest (omega arith) s
     ∙ rw (e, piece, rows, flat-snoc (map (λ u. drop (n - rest) u) G) (drop (n - rest) u)) (append-assoc (take to d) (flat (map (λ u. drop (n - rest) u) G)) (drop (n - rest) u))
 
-tail-take : (r : ℕ) (l : List ℕ) → tail (take (suc r) l) ≡ take r (drop 1 l)
+pub tail-take : (r : ℕ) (l : List ℕ) → tail (take (suc r) l) ≡ take r (drop 1 l)
 tail-take r [] = sym (lib.Seq.take-nil r)
 tail-take r (x ∷ l) = refl
 

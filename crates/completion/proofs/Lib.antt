@@ -9,6 +9,7 @@ pub mod BufferLaws
 pub mod OperationLaws
 pub mod CodeBytes
 pub mod CodeRows
+pub mod CodeChain
 pub mod CodeLevel
 pub mod CodeStep
 pub mod CodeOperation

@@ -2,6 +2,8 @@
 --
 --   part n k from bytes  k rows of n bytes each, from byte `from` on
 --   copies k b j S       the rows of S with exponent b at place k, then b + 1, .. : j times
+--   nextRow a i G        where the next row with head a stands
+--   Linked, Firsts       rows chained by head
 --   space m              the bytes that a row of m exponents and its tails take
 --   Appended             what `level` does: the completed table behind a front, at the end of what is written
 --   Standing             the code's walk after the heads below a is the model's
@@ -11,8 +13,10 @@
 use mathlib.Core.Path.{_≡_}
 use mathlib.Core.List.{List, [], _∷_, _++_, map}
 use Prim.Native.Nat.{ℕ, zero, suc, _+_, _*_, _-_, _≤_, _<_}
-use lib.ListN.{length, take, drop, set}
-use Rattle.terms.specs.Monomials.{Monomial, Table}
+use lib.Dec.{eqb}
+use lib.ListN.{length, take, drop, getD, set}
+use Rattle.terms.specs.Tests.{pick}
+use Rattle.terms.specs.Monomials.{Monomial, Table, _!_, rowAt}
 use Rattle.terms.specs.Rows.{firstRows, flat}
 use Rattle.completion.specs.Slices.{Walk, walk, slices, after, fit}
 use Rattle.completion.specs.Operation.{completedOf}
@@ -24,6 +28,19 @@ part n k from bytes = firstRows n k (drop from bytes)
 unfoldable pub copies : ℕ → ℕ → ℕ → Table → Table
 copies k b zero S = []
 copies k b (suc j) S = copies k b j S ++ map (λ u. set u k (b + j)) S
+
+-- one more than the number of the first row of G with head a, where G's first row has the number i; 0 where there is none
+unfoldable pub nextRow : ℕ → ℕ → Table → ℕ
+nextRow a i [] = 0
+nextRow a i (u ∷ G) = pick (eqb (u ! 1) a) (suc i) (nextRow a (suc i) G)
+
+-- next leads from each row of T to the next one with its head
+abbrev pub Linked : Table → List ℕ → Type 0
+Linked T next = (j : ℕ) → j < length T → getD next j 0 ≡ nextRow (rowAt T j ! 1) (suc j) (drop (suc j) T)
+
+-- first leads to the first row of T with each head
+abbrev pub Firsts : Table → List ℕ → Type 0
+Firsts T first = (a : ℕ) → a < 256 → getD first a 0 ≡ nextRow a 0 T
 
 unfoldable pub space : ℕ → ℕ
 space zero = 0

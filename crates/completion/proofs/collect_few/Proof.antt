@@ -1,7 +1,7 @@
 use lib.ListN.{length-replicate}
 use Rattle.completion.specs.Code.{Collects, Collected, Appended, Roomy}
 use Rattle.completion.proofs.CodeBytes.{rows-fewer}
-use Rattle.completion.proofs.CodeOperation.{collect-roomy, collected, copied-fits}
+use Rattle.completion.proofs.CodeOperation.{collect-roomy, collected, copied-fits, links-fit}
 use native.Mathlib.Omega.{arith}
 use borrow.Author.Tests.{le-ltb, lt-ltb, le-leb, lt-leb, eq-eqb, ne-eqb, ltb-true, ltb-false, leb-true, leb-false, eqb-true, eqb-false}
 use mathlib.Core.Path.{_≡_, refl, sym, ap, _∙_}
@@ -39,15 +39,21 @@ slice-aggregate-level : tie.Need-slice-aggregate-level
 slice-aggregate-level c = search needs
 
 
+slice-aggregate-level-2 : tie.Need-slice-aggregate-level-2
+slice-aggregate-level-2 c = search needs
+
+
 sub-level : tie.Need-sub-level
 sub-level c = search needs
 
 
 level-requires : tie.Need-level-requires
-level-requires c κs = let s = c .before .before .before .before .before .before .before in let a = s .args in let p = s .pre .0 in
+level-requires c κs = let s = c .before .before .before .before .before .before .before .before in let a = s .args in let p = s .pre .0 in
     let l : length (replicate {A = ℕ} 2100 0) ≡ 2100 = length-replicate {A = ℕ} 2100 0 in
+    let k : length (replicate {A = ℕ} 500 0) ≡ 500 = length-replicate {A = ℕ} 500 0 in
     let m : a .rows * 21 ≤ 2100 = omega (arith, s .pre .1) in
-    collect-roomy p (c .before .before .before .copy-from .last .0) (omega (arith, c .before .before .before .copy-from .kept .0))
+    let f = links-fit p 500 (omega (arith, s .pre .1)) in
+    (collect-roomy p (c .before .before .before .before .copy-from .last .0) (omega (arith, c .before .before .before .before .copy-from .kept .0)), omega arith)
 
 
 same-length : tie.Need-same-length
@@ -55,10 +61,10 @@ same-length c = search needs
 
 
 returns : tie.Need-returns
-returns c = let s = c .before .before .before .before .before .before .before .before .before .before .before in let a = s .args in let p = s .pre .0 in
+returns c = let s = c .before .before .before .before .before .before .before .before .before .before .before .before .before in let a = s .args in let p = s .pre .0 in
     let l : length (replicate {A = ℕ} 2100 0) ≡ 2100 = length-replicate {A = ℕ} 2100 0 in
     let f = copied-fits p 2100 (omega (arith, s .pre .1)) in
-    collected p (replicate {A = ℕ} 6 0) (replicate {A = ℕ} 2100 0) (c .before .before .before .before .before .before .before .copy-from .last .0) _ _ (c .before .before .before .level .result) (omega arith) (c .before .before .before .before .before .before .before .copy-from .kept .0) (c .before .before .before .before .before .before .before .copy-from .ensures) (c .before .before .before .level .ensures)
+    collected p (replicate {A = ℕ} 6 0) (replicate {A = ℕ} 2100 0) (c .before .before .before .before .before .before .before .before .before .copy-from .last .0) _ _ (c .before .before .before .before .level .result) (omega arith) (c .before .before .before .before .before .before .before .before .before .copy-from .kept .0) (c .before .before .before .before .before .before .before .before .before .copy-from .ensures) (c .before .before .before .before .level .ensures)
 
 pub collect-few-spec : {M : Type 1} → statement M
 collect-few-spec =
@@ -68,6 +74,7 @@ collect-few-spec =
     mul-copy-from
     copy-from-requires
     slice-aggregate-level
+    slice-aggregate-level-2
     sub-level
     level-requires
     same-length

@@ -8,14 +8,12 @@
 --   same-bundle               two accepted bundles with the same n and the same tables are the same bytes
 use mathlib.Core.Path.{_≡_, refl, sym, ap, _∙_}
 use mathlib.Core.List.{List, [], _∷_, _++_}
-use Prim.Native.Nat.{ℕ, zero, suc, _+_, _*_, _/_, _%_, _≤_, _<_}
+use Prim.Native.Nat.{ℕ, zero, suc, _+_, _*_, _≤_, _<_}
 use native.Mathlib.Nat.{add-mul-mod-self-left, add-mul-div-left, mod-eq-of-lt, div-eq-of-lt, le-of-suc-le-suc, not-suc-le-zero}
 use native.Mathlib.Omega.{arith}
 use lib.Dec.{lit<}
 use lib.ListN.{length, getD, take, drop, take-append-drop, drop-of-length-le}
 use lib.Seq.{drop-drop, drop-cons}
-use Rattle.terms.specs.Monomials.{Table}
-use Rattle.terms.specs.Rows.{flat}
 use Rattle.bundle.specs.Format.{byteAt, number16, variablesOf, tableCount, rowCount, offsetOf, placeOf, tableOf, tablesFrom, tablesOf}
 use Rattle.bundle.specs.Format.{Bytes, low, high, entriesOf, bodiesOf, bundleOf}
 use Rattle.bundle.proofs.AcceptedLaws.{Laid, Accepted, from-place, length-table, flat-table}

@@ -16,13 +16,13 @@
 --
 -- A check over whole bodies that is to come after 4 is one more element at the end of `bundleChecks`.
 use mathlib.Core.Path.{_≡_}
-use mathlib.Core.Bool.{Bool, true, false, not, _&&_, _||_}
+use mathlib.Core.Bool.{Bool, not, _&&_, _||_}
 use mathlib.Core.List.{List, [], _∷_, _++_}
 use mathlib.Core.Logic.{_⊎_}
-use Prim.Native.Nat.{ℕ, zero, suc, _+_, _*_, _≤_, _<_}
-use lib.Dec.{leb, ltb, eqb, lit<}
+use Prim.Native.Nat.{ℕ, zero, suc, _+_, _≤_, _<_}
+use lib.Dec.{leb, ltb, lit<}
 use lib.ListN.{length}
-use Rattle.terms.specs.Tests.{Tests, any, tests-as, tests-le, tests-lt, tests-eq, tests-and, tests-or, tests-not}
+use Rattle.terms.specs.Tests.{Tests, any, tests-le, tests-lt, tests-eq, tests-and, tests-or, tests-not}
 use Rattle.terms.specs.Refusals.{Check, check, EntryAbove50, tests-entryAbove50, tests-notOneToSix}
 use Rattle.bundle.specs.Format.{variablesOf, tableCount, headerLength, rowCount, offsetOf, bodyLength, placeOf, bodyOf}
 use Rattle.bundle.specs.Some.{SomeBelow, someBelow, tests-someBelow}

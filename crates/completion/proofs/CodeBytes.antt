@@ -8,25 +8,25 @@
 --   read-back            rows that were written are read again
 --   column-more          exponent k of one more row is set
 use mathlib.Core.Path.{_≡_, refl, sym, ap, _∙_, subst}
-use mathlib.Core.Bool.{Bool, true, false, not, _&&_, _||_}
-use mathlib.Core.List.{List, [], _∷_, _++_, map, append-assoc, append-nil, List·Memᴰ, List·Memᴰ·head, List·Memᴰ·tail}
-use mathlib.Core.Logic.{⊎-elim, by-cases}
+use mathlib.Core.Bool.{Bool, true, false}
+use mathlib.Core.List.{List, [], _∷_, _++_}
+use mathlib.Core.Logic.{by-cases}
 use native.Mathlib.Decide.{decLt}
 use Prim.Native.Nat.{ℕ, zero, suc, _+_, _*_, _-_, _≤_, _<_}
-use native.Mathlib.Nat.{not-suc-le-zero, le-of-suc-le-suc, mul-le-mul-right, add-mul}
+use native.Mathlib.Nat.{not-suc-le-zero, mul-le-mul-right, add-mul}
 use native.Mathlib.Numerals.{add-one}
 use native.Mathlib.Omega.{arith}
 use borrow.Author.Tests.{le-leb, lt-leb, le-ltb, lt-ltb}
-use lib.Dec.{leb, ltb}
-use lib.ListN.{length, take, drop, getD, set, length-append, length-drop, length-take, length-map, take-append-drop, drop-of-length-le, List·getD-append}
-use lib.Seq.{paste, paste-suc, length-take-le, getD-take, getD-drop, drop-drop, drop-cons, take-add, take-take, take-at, drop-at, take-append-le}
-use Rattle.terms.specs.Tests.{each, any, pick}
-use Rattle.terms.specs.Monomials.{Monomial, Table, _!_, _∈_, OfSize, rowAt}
+use lib.Dec.{leb}
+use lib.ListN.{length, take, drop, getD, set, length-append, length-drop, drop-of-length-le, List·getD-append}
+use lib.Seq.{paste, paste-suc, length-take-le, getD-take, getD-drop, drop-drop, drop-cons}
+use Rattle.terms.specs.Tests.{each}
+use Rattle.terms.specs.Monomials.{Monomial, Table, _!_, rowAt}
 use Rattle.terms.specs.Ideal.{dividesTest, insideTest}
-use Rattle.terms.specs.Rows.{firstRows, flat}
-use Rattle.terms.proofs.RowsLaws.{length-firstRows, firstRows-at, firstRows-size, firstRows-flat, length-flat, row-fits}
+use Rattle.terms.specs.Rows.{firstRows}
+use Rattle.terms.proofs.RowsLaws.{length-firstRows, firstRows-at}
 use Rattle.completion.specs.Slices.{heads, fresh}
-use Rattle.completion.specs.Code.{part, copies}
+use Rattle.completion.specs.Code.{part}
 
 -- ---- numbers
 

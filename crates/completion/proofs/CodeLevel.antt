@@ -1,26 +1,24 @@
 -- One level of the recursion: what `last_variable`, `step` and `level` have written.
 --
 --   last-none, last-full, last-one   one variable: no rows, no room, the least exponent
-use mathlib.Core.Path.{_≡_, refl, sym, ap, _∙_, subst}
+use mathlib.Core.Path.{_≡_, refl, sym, ap, _∙_}
 use mathlib.Core.Bool.{Bool, true, false}
-use mathlib.Core.List.{List, [], _∷_, _++_, map, append-assoc, append-nil}
+use mathlib.Core.List.{List, [], _∷_, _++_, append-nil}
 use Prim.Native.Nat.{ℕ, zero, suc, _+_, _*_, _-_, _≤_, _<_}
-use native.Mathlib.Nat.{not-suc-le-zero, mul-le-mul-right, add-mul, mul-add, mul-le-mul-left}
+use native.Mathlib.Nat.{mul-le-mul-right, mul-add, mul-le-mul-left}
 use native.Mathlib.Numerals.{add-one}
 use native.Mathlib.Omega.{arith}
-use lib.ListN.{length, take, drop, getD, set, length-append, length-drop, length-set}
+use lib.ListN.{length, take, drop, getD, set, length-drop, length-set}
 use lib.Seq.{paste, take-paste, take-suc-set, length-take-le, take-all}
-use Rattle.terms.specs.Monomials.{Monomial, Table, _!_, _∈_, OfSize, rowAt}
+use Rattle.terms.specs.Monomials.{Monomial, Table, _!_, OfSize, rowAt}
 use Rattle.terms.specs.Rows.{firstRows, flat}
-use Rattle.terms.proofs.RowsLaws.{length-firstRows, firstRows-size, length-flat, member-at, member-index}
-use Rattle.completion.specs.Blocks.{behind, repeated}
-use Rattle.completion.specs.Slices.{at, heads, fresh, Walk, walk, slices, after, fit}
-use Rattle.completion.specs.Code.{part, copies, space, Appended, Standing, Stepped, Roomy}
+use Rattle.terms.proofs.RowsLaws.{length-firstRows, firstRows-size, member-at, member-index}
+use Rattle.completion.specs.Slices.{at, heads, fresh, Walk, walk, slices, after}
+use Rattle.completion.specs.Code.{space, Appended, Standing, Stepped, Roomy}
 use Rattle.completion.specs.declared.Progress.{Progress}
-use Rattle.completion.proofs.SliceLaws.{Least}
 use Rattle.completion.proofs.WalkLaws.{slices-none, slices-one, slices-walk, walk-stays, walk-grows}
 use Rattle.completion.proofs.BufferLaws.{fit-within, fit-beyond, beyond-fit, within-fit, walk-fit}
-use Rattle.completion.proofs.CodeBytes.{head-byte, times-suc, rows-fewer}
+use Rattle.completion.proofs.CodeBytes.{head-byte, rows-fewer}
 
 -- ---- one variable
 

@@ -4,25 +4,24 @@
 --   collected              the recursion on the whole table gives rule 5's table
 --   room-whole, room-limit the room, where it is the buffer's and where it is 4,096
 --   collect-asks, done, no-rows   the promise: accepted, and refused for room
-use mathlib.Core.Path.{_≡_, refl, sym, ap, _∙_, subst}
-use mathlib.Core.List.{List, [], _∷_, _++_, append-nil}
-use Prim.Native.Nat.{ℕ, zero, suc, _+_, _*_, _-_, _/_, _≤_, _<_, min}
-use native.Mathlib.Nat.{mul-div-left, mul-le-mul-left, mul-le-mul-right, min-eq-left, min-eq-right, min-le-left, min-le-right, div-mul-le-self}
+use mathlib.Core.Path.{_≡_, sym, ap, _∙_, subst}
+use mathlib.Core.List.{List, [], _∷_, _++_}
+use Prim.Native.Nat.{ℕ, zero, suc, _+_, _*_, _-_, _/_, _≤_, _<_}
+use native.Mathlib.Nat.{mul-div-left, mul-le-mul-left, min-eq-left, min-eq-right, min-le-left}
 use native.Mathlib.Omega.{arith}
-use lib.ListN.{length, take, drop, length-drop}
+use lib.ListN.{length, take, drop}
 use lib.Seq.{paste, take-paste}
-use Rattle.terms.specs.Monomials.{Table, OfSize}
+use Rattle.terms.specs.Monomials.{Table}
 use Rattle.terms.specs.Rows.{firstRows, rows, flat}
 use Rattle.terms.specs.Refusals.{Accepts, refusal, tableChecks}
 use Rattle.terms.proofs.RowsLaws.{rows-size, length-rows}
 use Rattle.terms.proofs.RefusalLaws.{accepted, table-accepted, TableAccepted, refusal-first}
-use Rattle.completion.specs.Completed.{completed}
 use Rattle.completion.specs.Slices.{slices, after, fit}
 use Rattle.completion.specs.Operation.{roomFor, completedOf, roomCheck, completeChecks, CompletePromise}
 use Rattle.completion.specs.declared.CompleteAnswer.the-variants.{Rows, Refused}
 use Rattle.completion.specs.Code.{space, Appended, Roomy, Collects, Collected}
 use Rattle.completion.proofs.WalkLaws.{slices-completed}
-use Rattle.completion.proofs.BufferLaws.{after-none, fit-within, fit-beyond, beyond-fit, within-fit}
+use Rattle.completion.proofs.BufferLaws.{after-none, fit-within, beyond-fit, within-fit}
 use Rattle.completion.proofs.OperationLaws.{complete-accepts, complete-refuses, room-enough, no-room}
 use Rattle.completion.proofs.CodeBytes.{rows-fewer}
 use Rattle.completion.proofs.CodeRows.{same-rows}
@@ -63,12 +62,12 @@ module _ {n : ℕ} {table : List ℕ} {count : ℕ} {out : List ℕ} {room : ℕ
   pub collected : (head d work work' out' : List ℕ) (r : ℕ) → count * n ≤ length d → length work ≡ length d → work ≡ paste d 0 (drop 0 table) (count * n) → Appended n (n - 1) count head work out room 0 r work' out' → Collected n table room r out'
   collected head d work work' out' r g l e A =
       let front : take (count * n) work ≡ take (count * n) table =
-          ap (λ (b : List ℕ). take (count * n) b) e
-          ∙ ap (λ (x : ℕ). take x (paste d 0 table (count * n))) (sym (zero-plus (count * n)))
-          ∙ take-paste d 0 table (count * n) (omega arith) (omega (arith, h .whole)) in
+      ap (λ (b : List ℕ). take (count * n) b) e
+      ∙ ap (λ (x : ℕ). take x (paste d 0 table (count * n))) (sym (zero-plus (count * n)))
+      ∙ take-paste d 0 table (count * n) (omega arith) (omega (arith, h .whole)) in
       let same : firstRows (suc (n - 1)) count work ≡ rows n table = ap (λ (x : ℕ). firstRows x count work) whole ∙ same-rows n count work table (omega arith) (omega (arith, h .whole)) front ∙ sym table-rows in
       let done : slices (suc (n - 1)) (firstRows (suc (n - 1)) count work) ≡ completedOf n table =
-          ap (λ (G : Table). slices (suc (n - 1)) G) same ∙ ap (λ (x : ℕ). slices x (rows n table)) whole ∙ slices-completed n (rows n table) (rows-size n table) in
+      ap (λ (G : Table). slices (suc (n - 1)) G) same ∙ ap (λ (x : ℕ). slices x (rows n table)) whole ∙ slices-completed n (rows n table) (rows-size n table) in
       let none : n - suc (n - 1) ≡ 0 = omega (arith, whole) in
       let zero-rows : 0 * n ≡ 0 = omega arith in
       record {

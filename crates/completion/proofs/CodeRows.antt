@@ -7,17 +7,17 @@
 --   columned, column-more  the rows with exponent k set in the first of them, and in one more
 --   tails-more, tails-stay the tails of one more row
 --   copies-repeated        copies of a block behind a front are its repetitions
-use mathlib.Core.Path.{_≡_, refl, sym, ap, _∙_, subst}
+use mathlib.Core.Path.{_≡_, refl, sym, ap, _∙_}
 use mathlib.Core.Bool.{Bool, true, false}
 use mathlib.Core.List.{List, [], _∷_, _++_, map, tail, map-append, append-assoc, append-nil, Memᴰ·of-map}
 use Prim.Native.Nat.{ℕ, zero, suc, _+_, _*_, _-_, _≤_, _<_}
-use native.Mathlib.Nat.{not-suc-le-zero, le-of-suc-le-suc, mul-le-mul-right, add-mul, zero-add}
+use native.Mathlib.Nat.{mul-le-mul-right, add-mul}
 use native.Mathlib.Numerals.{add-one}
 use native.Mathlib.Omega.{arith}
 use borrow.Author.Tests.{eq-eqb, ne-eqb}
 use lib.Dec.{eqb}
 use lib.ListN.{length, take, drop, getD, set, length-append, length-drop, length-set, length-map, take-append-drop}
-use lib.Seq.{paste, length-take-le, getD-take, getD-drop, drop-drop, take-add, take-take, take-at, drop-at, take-append-le, drop-append-le, set-append-left, take-paste, length-paste, take-append-seam}
+use lib.Seq.{paste, length-take-le, getD-take, getD-drop, drop-drop, take-add, take-take, take-at, drop-at, take-append-le, set-append-left, take-paste}
 use Rattle.terms.specs.Tests.{pick, keep}
 use Rattle.terms.specs.Monomials.{Monomial, Table, _!_, OfSize}
 use Rattle.terms.specs.Rows.{firstRows, flat}
@@ -149,16 +149,16 @@ module _ (out : List ℕ) (n k first e : ℕ) where
       let lr : length r ≡ n = length-take-le n (drop ((first + i) * n) out) (rw length-drop (omega arith)) in
       let cut : drop ((first + i) * n) out ≡ r ++ rest = sym (take-append-drop n (drop ((first + i) * n) out)) ∙ ap (λ (l : List ℕ). r ++ l) (drop-drop n ((first + i) * n) out) in
       let left : set b ((first + i) * n + k) e ≡ X ++ (set r k e ++ rest) =
-          ap (λ (l : List ℕ). set l ((first + i) * n + k) e) (q ∙ ap (λ (l : List ℕ). X ++ l) cut)
-          ∙ ap (λ (x : ℕ). set (X ++ (r ++ rest)) (x + k) e) (sym lx)
-          ∙ set-append-add X (r ++ rest) k e
-          ∙ ap (λ (l : List ℕ). X ++ l) (set-append-left r rest k e (omega arith)) in
+      ap (λ (l : List ℕ). set l ((first + i) * n + k) e) (q ∙ ap (λ (l : List ℕ). X ++ l) cut)
+      ∙ ap (λ (x : ℕ). set (X ++ (r ++ rest)) (x + k) e) (sym lx)
+      ∙ set-append-add X (r ++ rest) k e
+      ∙ ap (λ (l : List ℕ). X ++ l) (set-append-left r rest k e (omega arith)) in
       let row : part n (i + 1) (first * n) out ≡ G ++ (r ∷ []) = part-snoc n i (first * n) out ∙ ap (λ (x : ℕ). G ++ (take n (drop x out) ∷ [])) p in
       let bytes : flat (map (λ u. set u k e) (part n (i + 1) (first * n) out)) ≡ flat (map (λ u. set u k e) G) ++ set r k e =
-          ap (λ (H : Table). flat (map (λ u. set u k e) H)) row
-          ∙ ap flat (map-append (λ u. set u k e) G (r ∷ []))
-          ∙ flat-append (map (λ u. set u k e) G) (set r k e ∷ [])
-          ∙ ap (λ (l : List ℕ). flat (map (λ u. set u k e) G) ++ l) (append-nil (set r k e)) in
+      ap (λ (H : Table). flat (map (λ u. set u k e) H)) row
+      ∙ ap flat (map-append (λ u. set u k e) G (r ∷ []))
+      ∙ flat-append (map (λ u. set u k e) G) (set r k e ∷ [])
+      ∙ ap (λ (l : List ℕ). flat (map (λ u. set u k e) G) ++ l) (append-nil (set r k e)) in
       left ∙ rw (next, bytes) (simp append-assoc)
 
   pub columned-take : (b : List ℕ) (i count : ℕ) → i ≡ count → (first + count) * n ≤ length out → b ≡ columned out n k first e i → take ((first + count) * n) b ≡ take (first * n) out ++ flat (map (λ u. set u k e) (part n count (first * n) out))
@@ -245,7 +245,7 @@ module _ (a m i : ℕ) (b : List ℕ) where
       let s : i + (count - i) ≡ count = omega arith in
       let g : firstRows m count b ≡ firstRows m i b ++ part m (count - i) (i * m) b = ap (λ (x : ℕ). firstRows m x b) (sym s) ∙ firstRows-add m i (count - i) b in
       let l : length (at a (firstRows m count b)) ≡ length (at a (firstRows m i b)) + length (at a (part m (count - i) (i * m) b)) =
-          ap (λ (G : Table). length (at a G)) g ∙ ap length (slice-append (λ x. eqb x a) (firstRows m i b) (part m (count - i) (i * m) b)) ∙ length-append (at a (firstRows m i b)) (at a (part m (count - i) (i * m) b)) in
+      ap (λ (G : Table). length (at a G)) g ∙ ap length (slice-append (λ x. eqb x a) (firstRows m i b) (part m (count - i) (i * m) b)) ∙ length-append (at a (firstRows m i b)) (at a (part m (count - i) (i * m) b)) in
       omega arith
 
 -- ---- what lies before a place that is equal in two arrays
@@ -286,10 +286,10 @@ compact-more n rest first i to out b c d h g f e p =
     let whole : n - rest + rest ≡ n = omega arith in
     let s : rest ≤ length (drop (x + (n - rest)) out) = rw length-drop (omega arith) in
     let piece : take rest (drop (x + (n - rest)) out) ≡ drop (n - rest) u =
-        ap (λ (l : List ℕ). take rest l) (sym (drop-drop (n - rest) x out)) ∙ sym (drop-take (n - rest) rest (drop x out)) ∙ ap (λ (y : ℕ). drop (n - rest) (take y (drop x out))) whole in
+    ap (λ (l : List ℕ). take rest l) (sym (drop-drop (n - rest) x out)) ∙ sym (drop-take (n - rest) rest (drop x out)) ∙ ap (λ (y : ℕ). drop (n - rest) (take y (drop x out))) whole in
     let rows : map (λ u. drop (n - rest) u) (part n (i + 1) (first * n) out) ≡ map (λ u. drop (n - rest) u) G ++ (drop (n - rest) u ∷ []) =
-        ap (λ (H : Table). map (λ u. drop (n - rest) u) H) (part-snoc n i (first * n) out ∙ ap (λ (y : ℕ). G ++ (take n (drop y out) ∷ [])) q)
-        ∙ map-append (λ u. drop (n - rest) u) G (u ∷ []) in
+    ap (λ (H : Table). map (λ u. drop (n - rest) u) H) (part-snoc n i (first * n) out ∙ ap (λ (y : ℕ). G ++ (take n (drop y out) ∷ [])) q)
+    ∙ map-append (λ u. drop (n - rest) u) G (u ∷ []) in
     ap (λ (y : ℕ). take y c) next
     ∙ ap (λ (l : List ℕ). take (to + i * rest + rest) l) p
     ∙ take-paste b (to + i * rest) (drop (x + (n - rest)) out) rest (omega arith) s
@@ -311,8 +311,8 @@ tails-written a rest i to taken row b c d w h g f e p q =
     let s : rest ≤ length (drop (row + 1) b) = rw length-drop (omega arith) in
     let next : to + (taken + 1) * rest ≡ to + taken * rest + rest = omega arith in
     let piece : take rest (drop (row + 1) b) ≡ tail (take (suc rest) (drop x d)) =
-        ap (λ (y : ℕ). take rest (drop (y + 1) b)) w ∙ same-piece (x + 1) rest to b d (omega arith) same
-        ∙ ap (λ (l : List ℕ). take rest l) (sym (drop-drop 1 x d)) ∙ sym (tail-take rest (drop x d)) in
+    ap (λ (y : ℕ). take rest (drop (y + 1) b)) w ∙ same-piece (x + 1) rest to b d (omega arith) same
+    ∙ ap (λ (l : List ℕ). take rest l) (sym (drop-drop 1 x d)) ∙ sym (tail-take rest (drop x d)) in
     ap (λ (y : ℕ). take y c) next
     ∙ ap (λ (l : List ℕ). take (to + taken * rest + rest) l) p
     ∙ take-paste b (to + taken * rest) (drop (row + 1) b) rest (omega arith) s
@@ -368,12 +368,14 @@ pub tails-done : (a rest count i to taken : ℕ) (d b : List ℕ) → i ≡ coun
 tails-done a rest count i to taken d b e g f l p =
     let l' : taken ≡ length (at a (firstRows (suc rest) count d)) = l ∙ ap (λ (x : ℕ). length (at a (firstRows (suc rest) x d))) e in
     let p' : take (to + taken * rest) b ≡ take to d ++ flat (at a (firstRows (suc rest) count d)) = p ∙ ap (λ (x : ℕ). take to d ++ flat (at a (firstRows (suc rest) x d))) e in
-    let z = at-size a (firstRows (suc rest) count d) (firstRows-size (suc rest) count d (omega arith)) in
-    (l', front-of to (to + taken * rest) b d (flat (at a (firstRows (suc rest) count d))) (omega arith) (length-take-le to d (omega arith)) p',
-    read-back rest taken to b (take to d) (at a (firstRows (suc rest) count d)) z (sym l') (length-take-le to d (omega arith)) p')
+    let z = at-size a (firstRows (suc rest) count d) (firstRows-size (suc rest) count d (omega arith)) in (
+      l',
+      front-of to (to + taken * rest) b d (flat (at a (firstRows (suc rest) count d))) (omega arith) (length-take-le to d (omega arith)) p',
+      read-back rest taken to b (take to d) (at a (firstRows (suc rest) count d)) z (sym l') (length-take-le to d (omega arith)) p',
+    )
 
 module _ (a rest i count to taken : ℕ) (d b : List ℕ) (h : i < count) (g : count * suc rest ≤ to) (f : to + length (at a (firstRows (suc rest) count d)) * rest ≤ length d)
-  (e : taken ≡ length (at a (firstRows (suc rest) i d))) (l : length b ≡ length d) (p : take (to + taken * rest) b ≡ take to d ++ flat (at a (firstRows (suc rest) i d))) where
+    (e : taken ≡ length (at a (firstRows (suc rest) i d))) (l : length b ≡ length d) (p : take (to + taken * rest) b ≡ take to d ++ flat (at a (firstRows (suc rest) i d))) where
   same-head : getD b (i * (rest + 1)) 0 ≡ getD d (i * suc rest) 0
   same-head =
       let m = row-fits i count (suc rest) to h g in
@@ -388,9 +390,11 @@ module _ (a rest i count to taken : ℕ) (d b : List ℕ) (h : i < count) (g : c
       let room = tails-room a rest i count to taken d b h g f e l p q in
       let w : i * (rest + 1) ≡ i * suc rest = omega arith in
       let more : length (at a (firstRows (suc rest) (i + 1) d)) ≡ length (at a (firstRows (suc rest) i d)) + 1 =
-          ap length (tails-more a (suc rest) i d (omega arith) (sym same-head ∙ q)) ∙ length-append (at a (firstRows (suc rest) i d)) (tail (take (suc rest) (drop (i * suc rest) d)) ∷ []) in
-      (omega arith, s ∙ l,
-      ap (λ (x : ℕ). take (to + x * rest) c) t ∙ tails-written a rest i to taken (i * (rest + 1)) b c d w (omega arith) (omega (arith, room .0)) (omega arith) p r q)
+      ap length (tails-more a (suc rest) i d (omega arith) (sym same-head ∙ q)) ∙ length-append (at a (firstRows (suc rest) i d)) (tail (take (suc rest) (drop (i * suc rest) d)) ∷ []) in (
+        omega arith,
+        s ∙ l,
+        ap (λ (x : ℕ). take (to + x * rest) c) t ∙ tails-written a rest i to taken (i * (rest + 1)) b c d w (omega arith) (omega (arith, room .0)) (omega arith) p r q,
+      )
 
   pub tails-pass : (c : List ℕ) (new : ℕ) → (getD b (i * (rest + 1)) 0 ≡ a → ⊥) → c ≡ b → new ≡ taken →
       (new ≡ length (at a (firstRows (suc rest) (i + 1) d))) × (length c ≡ length d) × (take (to + new * rest) c ≡ take to d ++ flat (at a (firstRows (suc rest) (i + 1) d)))

@@ -3,27 +3,26 @@
 --   step-stays             the tails add nothing
 --   step-full, step-over   no room for the block repeated, or for the block of the head
 --   step-keeps, step-takes the block of the head is written, and the generators stay or the block takes their place
-use mathlib.Core.Path.{_≡_, refl, sym, ap, _∙_, subst}
+use mathlib.Core.Path.{_≡_, sym, ap, _∙_, subst}
 use mathlib.Core.Bool.{Bool, true, false}
-use mathlib.Core.List.{List, [], _∷_, _++_, map, append-assoc, append-nil, List·Memᴰ, List·Memᴰ·not-nil, Memᴰ·append-left, Memᴰ·of-map}
+use mathlib.Core.List.{List, [], _∷_, _++_, map, append-assoc, List·Memᴰ, List·Memᴰ·not-nil, Memᴰ·append-left, Memᴰ·of-map}
 use Prim.Native.Nat.{ℕ, zero, suc, _+_, _*_, _-_, _≤_, _<_}
-use native.Mathlib.Nat.{not-suc-le-zero, mul-le-mul-right, add-mul, mul-add}
-use native.Mathlib.Numerals.{add-one}
+use native.Mathlib.Nat.{add-mul}
 use native.Mathlib.Omega.{arith}
 use borrow.Author.Tests.{le-ltb, lt-ltb}
-use lib.ListN.{length, take, drop, getD, set, length-append, length-drop, length-set, take-append-drop}
-use lib.Seq.{take-suc-set, length-take-le, take-all, take-at, drop-at, take-append-le}
+use lib.ListN.{length, take, drop, set, length-append, length-drop}
+use lib.Seq.{take-suc-set, length-take-le, take-at, drop-at, take-append-le}
 use Rattle.terms.specs.Monomials.{Monomial, Table, OfSize}
 use Rattle.terms.specs.Rows.{firstRows, flat}
 use Rattle.terms.proofs.RowsLaws.{length-firstRows, firstRows-size, length-flat}
 use Rattle.completion.specs.Blocks.{behind, repeated}
 use Rattle.completion.specs.Slices.{at, fresh, Walk, shorter, grown, walk, slices, after, fit}
-use Rattle.completion.specs.Code.{part, copies, space, Appended, Standing, Stepped, Roomy}
+use Rattle.completion.specs.Code.{part, copies, Appended, Standing, Stepped}
 use Rattle.completion.specs.declared.Progress.{Progress}
 use Rattle.completion.proofs.SliceLaws.{at-size}
 use Rattle.completion.proofs.WalkLaws.{slices-size, size-both, walk-stays, walk-grows, walk-room, walk-generators, walk-block, walk-written, walk-end}
-use Rattle.completion.proofs.BufferLaws.{flat-append, length-behind, length-repeated, length-after, length-stepped, after-size, after-append, after-behind, after-drop, fit-within, fit-beyond, beyond-fit, within-fit}
-use Rattle.completion.proofs.CodeBytes.{rows-fewer, rows-before}
+use Rattle.completion.proofs.BufferLaws.{flat-append, length-behind, length-after, after-size, after-append, after-behind, after-drop, fit-within, fit-beyond, beyond-fit, within-fit}
+use Rattle.completion.proofs.CodeBytes.{rows-fewer}
 use Rattle.completion.proofs.CodeRows.{part-add, same-rows, same-part, shorter-front, read-back, front-of, copies-repeated}
 
 behind-size : (r a : ℕ) (B : Table) → OfSize r B → OfSize (suc r) (behind a B)
@@ -38,8 +37,7 @@ repeated-size r b zero B z = λ u m. absurd (List·Memᴰ·not-nil m)
 repeated-size r b (suc j) B z = size-both (suc r) (repeated b j B) (behind (b + j) B) (repeated-size r b j B z) (behind-size r (b + j) B z)
 
 module _ (T : Table) (start : ℕ) (P : List ℕ) (n rest rows : ℕ) (head : List ℕ) (room a : ℕ) (work out : List ℕ) (w : Progress)
-  (S : Standing T start P n rest rows head room a work out w) (hn : suc rest ≤ n) (hh : n ≤ length head) (hw : rows * suc rest ≤ length work) (ho : room * n ≤ length out) where
-
+    (S : Standing T start P n rest rows head room a work out w) (hn : suc rest ≤ n) (hh : n ≤ length head) (hw : rows * suc rest ≤ length work) (ho : room * n ≤ length out) where
   -- the model's walk, the generators with the tails of a, the block of a, the blocks between
   abbrev W : Walk
   W = walk (λ H. slices rest H) T a
@@ -91,20 +89,19 @@ module _ (T : Table) (start : ℕ) (P : List ℕ) (n rest rows : ℕ) (head : Li
       let lx : length X ≡ w .from * n = length-append P (flat (after p R)) ∙ omega (arith, S .before, lr, add-mul start (length R) n, ap (λ (k : ℕ). k * n) from) in
       let whole : w .from * n + (w .end - w .from) * n ≡ w .end * n = sym (add-mul (w .from) (w .end - w .from) n) ∙ ap (λ (k : ℕ). k * n) (omega (arith, S .block)) in
       let bytes : take (w .from * n + (w .end - w .from) * n) out ≡ X ++ flat (after p B) =
-          ap (λ (k : ℕ). take k out) whole ∙ S .written
-          ∙ ap (λ (H : Table). P ++ flat (after p H)) (sym (r .1))
-          ∙ ap (λ (H : Table). P ++ flat H) (after-append p R B)
-          ∙ ap (λ (l : List ℕ). P ++ l) (flat-append (after p R) (after p B))
-          ∙ sym (append-assoc P (flat (after p R)) (flat (after p B))) in
+      ap (λ (k : ℕ). take k out) whole ∙ S .written
+      ∙ ap (λ (H : Table). P ++ flat (after p H)) (sym (r .1))
+      ∙ ap (λ (H : Table). P ++ flat H) (after-append p R B)
+      ∙ ap (λ (l : List ℕ). P ++ l) (flat-append (after p R) (after p B))
+      ∙ sym (append-assoc P (flat (after p R)) (flat (after p B))) in
       let lb : length (after p B) ≡ w .end - w .from = length-after p B ∙ length-behind (W .last) (W .block) ∙ omega (arith, S .block) in
       read-back n (w .end - w .from) (w .from * n) out X (after p B) (row-size B (behind-size rest (W .last) (W .block) (walk-block rest T table-size a))) lb lx bytes
 
   -- ---- the tails of a stand behind the generators
 
   module _ (base : ℕ) (eb : base ≡ rows * suc rest) (more : ℕ) (work₁ : List ℕ) (l₁ : length work₁ ≡ length work)
-    (m₁ : more ≡ length (at a (firstRows (suc rest) rows work))) (t₁ : take (base + w .generators * rest) work₁ ≡ take (base + w .generators * rest) work)
-    (p₁ : part rest more (base + w .generators * rest) work₁ ≡ at a (firstRows (suc rest) rows work)) (cap : base + rows * rest ≤ length work) where
-
+      (m₁ : more ≡ length (at a (firstRows (suc rest) rows work))) (t₁ : take (base + w .generators * rest) work₁ ≡ take (base + w .generators * rest) work)
+      (p₁ : part rest more (base + w .generators * rest) work₁ ≡ at a (firstRows (suc rest) rows work)) (cap : base + rows * rest ≤ length work) where
     within : base + w .generators * rest ≤ length work
     within = let f : w .generators * rest ≤ rows * rest = rows-fewer (w .generators) rows rest (omega (arith, few)) in omega arith
 
@@ -180,9 +177,8 @@ module _ (T : Table) (start : ℕ) (P : List ℕ) (n rest rows : ℕ) (head : Li
       -- ---- the block of the last head repeated
 
       module _ (k : ℕ) (ek : k ≡ n - suc rest) (row : ℕ) (out₁ : List ℕ)
-        (e₂ : row ≡ fit room (w .end + length (copies k (suc (w .last)) (a - suc (w .last)) (part n (w .end - w .from) (w .from * n) out))))
-        (w₂ : row ≤ room → take (row * n) out₁ ≡ take (w .end * n) out ++ flat (copies k (suc (w .last)) (a - suc (w .last)) (part n (w .end - w .from) (w .from * n) out))) where
-
+          (e₂ : row ≡ fit room (w .end + length (copies k (suc (w .last)) (a - suc (w .last)) (part n (w .end - w .from) (w .from * n) out))))
+          (w₂ : row ≤ room → take (row * n) out₁ ≡ take (w .end * n) out ++ flat (copies k (suc (w .last)) (a - suc (w .last)) (part n (w .end - w .from) (w .from * n) out))) where
         repeated-rows : copies k (suc (w .last)) (a - suc (w .last)) (part n (w .end - w .from) (w .from * n) out) ≡ after p M
         repeated-rows =
             ap (λ (H : Table). copies k (suc (w .last)) (a - suc (w .last)) H) block-rows
@@ -201,8 +197,7 @@ module _ (T : Table) (start : ℕ) (P : List ℕ) (n rest rows : ℕ) (head : Li
         -- ---- the block of a behind it
 
         module _ (h : row ≤ room) (lent : List ℕ) (el : lent ≡ drop base work₁) (next : List ℕ) (en : next ≡ set head k a) (end : ℕ) (lent₂ out₂ : List ℕ) (positive : 0 < rest)
-          (A : Appended n (rest - 1) (w .generators + more) next lent out₁ room row end lent₂ out₂) where
-
+            (A : Appended n (rest - 1) (w .generators + more) next lent out₁ room row end lent₂ out₂) where
           row-at : row ≡ w .end + length M
           row-at = row-end ∙ fit-within room (w .end + length M) (within-fit room (w .end + length M) (omega (arith, row-end)))
 
@@ -277,9 +272,9 @@ module _ (T : Table) (start : ℕ) (P : List ℕ) (n rest rows : ℕ) (head : Li
                 let size : (w .generators + more) * rest ≤ length lent = rw (el, length-drop) (omega arith) in
                 let kept : take ((w .generators + more) * rest) lent₂ ≡ take ((w .generators + more) * rest) lent = ap (λ (x : ℕ). take ((w .generators + more) * x) lent₂) (sym whole) ∙ A .kept ∙ ap (λ (x : ℕ). take ((w .generators + more) * x) lent) whole in
                 let rows' : part rest (w .generators + more) base b ≡ K =
-                    same-rows rest (w .generators + more) (drop base b) lent (rw (d, length-append) (omega arith)) size
-                    (ap (λ (x : List ℕ). take ((w .generators + more) * rest) x) d ∙ take-append-le ((w .generators + more) * rest) lent₂ tail (omega arith) ∙ kept)
-                    ∙ ap (λ (x : List ℕ). firstRows rest (w .generators + more) x) el ∙ all-generators in
+                same-rows rest (w .generators + more) (drop base b) lent (rw (d, length-append) (omega arith)) size
+                (ap (λ (x : List ℕ). take ((w .generators + more) * rest) x) d ∙ take-append-le ((w .generators + more) * rest) lent₂ tail (omega arith) ∙ kept)
+                ∙ ap (λ (x : List ℕ). firstRows rest (w .generators + more) x) el ∙ all-generators in
                 let pick : shorter C K ≡ K = rw (le-ltb (length C) (length K) (omega (arith, end-at))) in
                 step-on (w .generators + more) b l (ap (λ (x : List ℕ). take base x) e ∙ take-at (take base work₁) (lent₂ ++ tail) base lb) (rows' ∙ sym pick)
 
@@ -299,13 +294,13 @@ module _ (T : Table) (start : ℕ) (P : List ℕ) (n rest rows : ℕ) (head : Li
                 let lr : length (take (row * n) out₁) ≡ row * n = ap length row-bytes ∙ length-append P (flat (after p (W .written ++ M))) ∙ rows-bytes in
                 let split : row * n + (end - row) * n ≡ end * n = sym (add-mul row (end - row) n) ∙ ap (λ (x : ℕ). x * n) (omega (arith, end-at)) in
                 let rows' : part n (end - row) (row * n) out₂ ≡ after p (behind a C) =
-                    read-back n (end - row) (row * n) out₂ (take (row * n) out₁) (after p (behind a C)) (row-size (behind a C) (behind-size rest a C zc))
-                    (length-after p (behind a C) ∙ length-behind a C ∙ sym count) lr (ap (λ (x : ℕ). take x out₂) split ∙ block-bytes) in
+                read-back n (end - row) (row * n) out₂ (take (row * n) out₁) (after p (behind a C)) (row-size (behind a C) (behind-size rest a C zc))
+                (length-after p (behind a C) ∙ length-behind a C ∙ sym count) lr (ap (λ (x : ℕ). take x out₂) split ∙ block-bytes) in
                 let columns : n - rest ≡ suc (length p) = omega (arith, front-length) in
                 let tails : map (λ u. drop (n - rest) u) (part n (end - row) (row * n) out₂) ≡ C =
-                    ap (λ (H : Table). map (λ u. drop (n - rest) u) H) rows'
-                    ∙ ap (λ (x : ℕ). map (λ u. drop x u) (after p (behind a C))) columns
-                    ∙ after-drop p a C in
+                ap (λ (H : Table). map (λ u. drop (n - rest) u) H) rows'
+                ∙ ap (λ (x : ℕ). map (λ u. drop x u) (after p (behind a C))) columns
+                ∙ after-drop p a C in
                 let made : part rest (end - row) base c ≡ C = read-back rest (end - row) base c (take base b) C zc (sym count) lc (q ∙ ap (λ (H : Table). take base b ++ flat H) tails) in
                 let shortest : length C < length K = omega arith in
                 let pick : shorter C K ≡ C = rw (lt-ltb (length C) (length K) shortest) in

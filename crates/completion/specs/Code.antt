@@ -16,9 +16,9 @@ use Prim.Native.Nat.{ℕ, zero, suc, _+_, _*_, _-_, _≤_, _<_}
 use lib.Dec.{eqb}
 use lib.ListN.{length, take, drop, getD, set}
 use Rattle.terms.specs.Tests.{pick}
-use Rattle.terms.specs.Monomials.{Monomial, Table, _!_, rowAt}
+use Rattle.terms.specs.Monomials.{Table, _!_, rowAt}
 use Rattle.terms.specs.Rows.{firstRows, flat}
-use Rattle.completion.specs.Slices.{Walk, walk, slices, after, fit}
+use Rattle.completion.specs.Slices.{walk, slices, after, fit}
 use Rattle.completion.specs.Operation.{completedOf}
 use Rattle.completion.specs.declared.Progress.{Progress}
 

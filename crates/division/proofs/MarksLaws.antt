@@ -17,7 +17,7 @@
 use mathlib.Core.Path.{_≡_, refl, sym, ap, _∙_, subst}
 use mathlib.Core.Bool.{Bool, true, false}
 use mathlib.Core.List.{[], _∷_, map}
-use mathlib.Core.Logic.{_⊎_, ⊎-elim, by-cases}
+use mathlib.Core.Logic.{⊎-elim, by-cases}
 use Prim.Native.Nat.{ℕ, zero, suc, _+_, _*_, _-_, _/_, _%_, _^_, _≤_, _<_}
 use native.Mathlib.Nat.{not-suc-le-zero, eq-or-lt-of-le, le-of-suc-le-suc, two-pow-succ, mod-eq-of-lt, div-eq-of-lt, mul-add-mod-self-right, mul-assoc}
 use native.Mathlib.Decide.{decLe}

@@ -26,7 +26,7 @@ use Rattle.terms.specs.Monomials.{Monomial, Table, _!_, rowAt, SameBefore}
 use Rattle.terms.specs.Order.{Precedes, Ascending}
 use Rattle.terms.proofs.MonomialLaws.{before-suc, before-first}
 use Rattle.terms.proofs.OrderLaws.{ascending-between}
-use Rattle.division.specs.Descent.{insert, distinct, first, last, numbersFrom, exponents, stepped, goesOn, onward, descend, descent}
+use Rattle.division.specs.Descent.{insert, distinct, last, numbersFrom, exponents, stepped, goesOn, onward, descend}
 use Rattle.division.proofs.NumberLaws.{distinct-in, map-in, numbers-in}
 use Rattle.division.proofs.DescentLaws.{exponents-in, stepped-in, stepped-make, tests-goesOn}
 use Rattle.division.specs.Ranges.{range, GroupRange, FirstLarger, after}

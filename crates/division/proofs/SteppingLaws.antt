@@ -21,7 +21,7 @@ use native.Mathlib.Omega.{arith}
 use lib.ListN.{length, getD}
 use Rattle.terms.specs.Monomials.{Monomial, Table, _!_, rowAt}
 use Rattle.terms.specs.Order.{Ascending}
-use Rattle.division.specs.Descent.{Descent, first, last, numbersFrom, descend, descent}
+use Rattle.division.specs.Descent.{Descent, first, numbersFrom, descend, descent}
 use Rattle.division.proofs.DescentLaws.{descent-empty}
 use Rattle.division.specs.Ranges.{range, GroupRange, FirstLarger, Between, Reached, Ready, after, descendFrom}
 use Rattle.division.proofs.RangeLaws.{range-cons, range-all, ascends-at, range-above, range-shared, range-none, range-next, range-gap, range-down}

@@ -11,10 +11,9 @@
 --   Complete         rule 4
 --
 -- With the tests `sameBeforeTest`, `multiplicativeTest`, `janetTest`, `coveredTest`, `completeTest`.
-use mathlib.Core.Path.{_≡_}
 use mathlib.Core.Bool.{Bool, true, not, _&&_}
-use mathlib.Core.List.{List, [], _∷_, map}
-use Prim.Native.Nat.{ℕ, zero, suc, _+_, _^_, _≤_, _<_}
+use mathlib.Core.List.{List, map}
+use Prim.Native.Nat.{ℕ, zero, suc, _+_, _^_, _≤_}
 use lib.Dec.{leb, ltb, eqb}
 use lib.ListN.{length}
 use Rattle.terms.specs.Tests.{pick, _implies_, each, all, any, keep}

@@ -59,7 +59,12 @@ pub extern "C" fn rocaplanh_inside(n: usize, table: &[u8], query: &[u8], row: &m
 
 // The completed table at the front of the lent buffer, and the number of its rows.
 #[no_mangle]
-pub extern "C" fn rocaplanh_complete(n: usize, table: &[u8], buffer: &mut [u8], count: &mut u32) -> u32
+pub extern "C" fn rocaplanh_complete(
+    n: usize,
+    table: &[u8],
+    buffer: &mut [u8],
+    count: &mut u32,
+) -> u32
     ensures { λ r. ⌜ CompleteExport n (now (table .entry)) (now (buffer .entry)) r (now (count .exit)) (now (buffer .exit)) ⌝ }
 {
     let answer = complete(n, table, buffer);

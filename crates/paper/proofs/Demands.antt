@@ -118,9 +118,10 @@ marking-of : (n : ℕ) (table buffer : List ℕ) (answer : MarksAnswer) (after :
     → marksNumber answer ≡ 0 → Marking n table buffer after
 marking-of n table buffer answer after p e = record {
   marks = λ r j l h.
-      let t = tests-marks n G (rowAt G r) j h in
-      (λ x. t .sound (tests-eq _ 1 .complete (sym (ap (λ (m : ℕ). m / 2 ^ j % 2) (byte r l)) ∙ x)),
-      λ m. ap (λ (k : ℕ). k / 2 ^ j % 2) (byte r l) ∙ tests-eq _ 1 .sound (t .complete m));
+      let t = tests-marks n G (rowAt G r) j h in (
+        λ x. t .sound (tests-eq _ 1 .complete (sym (ap (λ (m : ℕ). m / 2 ^ j % 2) (byte r l)) ∙ x)),
+        λ m. ap (λ (k : ℕ). k / 2 ^ j % 2) (byte r l) ∙ tests-eq _ 1 .sound (t .complete m),
+      );
   small = λ r l. omega (arith, byte r l, marksOf-below n G (rowAt G r));
   behind = ap (drop (length G)) written ∙ drop-at (tableMarks n G) (drop (length G) buffer) (length G) (length-tableMarks n G);
 }

@@ -55,7 +55,10 @@ one-export = record {
       let e = steady-unique n table _ _ (p .promise) (q .promise) in
       (same steadyNumber (p .returned) (q .returned) e, same steadyValue (p .degree-is) (q .degree-is) e);
   opened = λ bundle j m k n o r s x y p q.
-      let e = locate-unique bundle j _ _ (p .promise) (q .promise) in
-      (same (λ (l : Located). l .refusal) (p .returned) (q .returned) e, same (λ (l : Located). l .n) (p .variables) (q .variables) e,
-      same (λ (l : Located). l .rows) (p .count) (q .count) e, same (λ (l : Located). l .place) (p .begins) (q .begins) e);
+      let e = locate-unique bundle j _ _ (p .promise) (q .promise) in (
+        same (λ (l : Located). l .refusal) (p .returned) (q .returned) e,
+        same (λ (l : Located). l .n) (p .variables) (q .variables) e,
+        same (λ (l : Located). l .rows) (p .count) (q .count) e,
+        same (λ (l : Located). l .place) (p .begins) (q .begins) e,
+      );
 }

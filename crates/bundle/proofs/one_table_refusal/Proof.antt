@@ -1,7 +1,6 @@
 -- `one_table_refusal` meets its contract: each branch is the condition of 3, 10 or 11, those before it passed.
 use Rattle.bundle.proofs.CheckLaws.{framed, body-bound, reads-rows, reads-offset, table-three, table-ten, table-eleven, table-passes}
 use native.Mathlib.Omega.{arith}
-use mathlib.Core.Path.{sym, _∙_}
 use denote.Ref.{now}
 use Rattle.bundle.proofs.one_table_refusal.Statement.{statement}
 use Rattle.bundle.proofs.one_table_refusal.Tie as tie

@@ -1,27 +1,21 @@
 use borrow.Rule.Slice.PartMut.{putMid, take-put, same-len-mid}
 use native.Mathlib.Numerals.{add-one}
-use lib.ListN.{length-drop, length-set}
-use lib.Seq.{length-take-le, take-all}
 use borrow.Author.Tests.{not-true, not-false}
-use Rattle.terms.specs.Rows.{firstRows, flat}
+use Rattle.terms.specs.Rows.{firstRows}
 use Rattle.completion.proofs.CodeBytes.{rows-fewer}
 use Rattle.completion.proofs.CodeLevel.{level-start, level-full, level-done, table-wide, tails-wide, roomy-as, next-roomy, appended-above, lent-all, lent-length, walk-last}
 use Rattle.completion.proofs.CodeStep.{few, grows-as, step-stays, step-full, step-over, step-keeps, step-takes}
-use Rattle.completion.specs.Slices.{at, slices, walk, heads, fresh, fit}
-use Rattle.completion.specs.Code.{part, copies, space, Appended, Standing, Stepped, Roomy, Linked, Firsts}
+use Rattle.completion.specs.Slices.{at, slices, heads}
+use Rattle.completion.specs.Code.{Appended, Standing, Roomy, Linked, Firsts}
 use Rattle.completion.proofs.CodeChain.{linked-as, zeros-at}
 use Rattle.completion.proofs.CodeBytes.{times-large, times-less}
 use Rattle.terms.proofs.RowsLaws.{length-firstRows}
 use lib.ListN.{length-replicate}
 use borrow.Author.Needs.{needs}
 use native.Mathlib.Omega.{arith}
-use borrow.Author.Tests.{le-ltb, lt-ltb, le-leb, lt-leb, eq-eqb, ne-eqb, ltb-true, ltb-false, leb-true, leb-false, eqb-true, eqb-false}
 use mathlib.Core.Path.{_≡_, refl, sym, ap, _∙_, subst}
-use mathlib.Core.Logic.{⊎-elim}
-use mathlib.Core.List.{List, [], _∷_, _++_}
-use mathlib.Core.Bool.{Bool, true, false}
-use Prim.Native.Nat.{zero, suc, _+_, _*_, _-_, _/_, _%_, _≤_}
-use lib.ListN.{length, take, drop, getD, set, replicate}
+use Prim.Native.Nat.{suc, _+_, _*_, _-_, _≤_}
+use lib.ListN.{length, take, drop, set}
 use denote.Ref.{now}
 use Prim.Native.Nat.{ℕ, _<_}
 use borrow.Fn.Kinds.{In}
@@ -75,7 +69,6 @@ level-Inv-loop work₀ next₀ rows rest head out₀ room at first top w₀ a₀
 abbrev level-μ-loop : level-lts.MeasureT-loop
 level-μ-loop work₀ next₀ rows rest head out₀ room at first top w₀ a₀ work next out w a = top - a
 
-
 level-last-variable-requires : (t : ℕ) → level-lts.Need-last-variable-requires (
   last-variable-reads.Asked,
   last-variable-reads.Learnt,
@@ -89,7 +82,6 @@ level-last-variable-requires : (t : ℕ) → level-lts.Need-last-variable-requir
 level-last-variable-requires t c κs = let s = c .before .before .before .before .before .before in let a = s .args in
     subst (λ (x : ℕ). Roomy (a .head .n) x (a .rows) (a .work .now) (a .out .now) (a .room) (a .at)) (c .before .before .if1 .taken) (s .pre .1 .0)
 
-
 level-same-length : (t : ℕ) → level-lts.Need-same-length (
   last-variable-reads.Asked,
   last-variable-reads.Learnt,
@@ -102,7 +94,6 @@ level-same-length : (t : ℕ) → level-lts.Need-same-length (
 ) (level-at t) level.Post level-Inv-loop level-μ-loop
 level-same-length t c = search needs
 
-
 level-same-length-2 : (t : ℕ) → level-lts.Need-same-length-2 (
   last-variable-reads.Asked,
   last-variable-reads.Learnt,
@@ -114,7 +105,6 @@ level-same-length-2 : (t : ℕ) → level-lts.Need-same-length-2 (
   step.Post,
 ) (level-at t) level.Post level-Inv-loop level-μ-loop
 level-same-length-2 t c = search needs
-
 
 level-returns : (t : ℕ) → level-lts.Need-returns (
   last-variable-reads.Asked,
@@ -130,7 +120,6 @@ level-returns t c = let s = c .before .before .before .before .before .before .b
     subst (λ (x : ℕ). Appended (a .head .n) x (a .rows) (a .head .exponents) (a .work .now) (a .out .now) (a .room) (a .at) (c .before .before .last-variable .result) (a .work .now) (c .before .before .last-variable .last .1 .1 .1 .0))
     (sym (c .before .before .before .before .before .if1 .taken)) (c .before .before .last-variable .ensures)
 
-
 level-add-chain : (t : ℕ) → level-lts.Need-add-chain (
   last-variable-reads.Asked,
   last-variable-reads.Learnt,
@@ -143,7 +132,6 @@ level-add-chain : (t : ℕ) → level-lts.Need-add-chain (
 ) (level-at t) level.Post level-Inv-loop level-μ-loop
 level-add-chain t c = search needs
 
-
 level-slice-aggregate-chain : (t : ℕ) → level-lts.Need-slice-aggregate-chain (
   last-variable-reads.Asked,
   last-variable-reads.Learnt,
@@ -155,7 +143,6 @@ level-slice-aggregate-chain : (t : ℕ) → level-lts.Need-slice-aggregate-chain
   step.Post,
 ) (level-at t) level.Post level-Inv-loop level-μ-loop
 level-slice-aggregate-chain t c = search needs
-
 
 level-chain-requires : (t : ℕ) → level-lts.Need-chain-requires (
   last-variable-reads.Asked,
@@ -172,7 +159,6 @@ level-chain-requires t c κs = let s = c .before .before .before .before .before
     let g = times-large (a .rows) (a .rest) (omega arith) in
     (omega arith, omega arith, s .pre .1 .0 .many, omega (arith, s .pre .1 .1), length-replicate {A = ℕ} 256 0, zeros-at 256)
 
-
 level-add-head-count : (t : ℕ) → level-lts.Need-add-head-count (
   last-variable-reads.Asked,
   last-variable-reads.Learnt,
@@ -184,7 +170,6 @@ level-add-head-count : (t : ℕ) → level-lts.Need-add-head-count (
   step.Post,
 ) (level-at t) level.Post level-Inv-loop level-μ-loop
 level-add-head-count t c = search needs
-
 
 level-head-count-requires : (t : ℕ) → level-lts.Need-head-count-requires (
   last-variable-reads.Asked,
@@ -200,7 +185,6 @@ level-head-count-requires t c κs = let s = c .before .before .before .before .b
     let f = table-wide (s .pre .1 .0) in
     (omega arith, omega arith)
 
-
 level-loop-holds : (t : ℕ) → level-lts.Need-loop-holds (
   last-variable-reads.Asked,
   last-variable-reads.Learnt,
@@ -211,12 +195,17 @@ level-loop-holds : (t : ℕ) → level-lts.Need-loop-holds (
   step-below t,
   step.Post,
 ) (level-at t) level.Post level-Inv-loop level-μ-loop
-level-loop-holds t c = let s = c .before .before .before .before .before .before .before .before .before .before .before .before .before in let a = s .args in
-    (level-start (a .head .n) (a .rest) (a .rows) (a .head .exponents) (a .work .now) (a .out .now) (a .room) (a .at) (s .pre .1 .0), refl, omega arith, refl, refl,
-    refl, c .before .before .before .before .before .chain .kept .1 .1 .1 .1 .0 ∙ length-replicate {A = ℕ} 256 0,
-    subst (λ (m : ℕ). Linked (firstRows m (a .rows) (a .work .now)) (c .before .before .before .before .before .chain .last .1 .1 .1 .0)) (add-one (a .rest)) (c .before .before .before .before .before .chain .ensures .0),
-    subst (λ (m : ℕ). Firsts (firstRows m (a .rows) (a .work .now)) (c .before .before .before .before .before .chain .last .1 .1 .1 .1 .0)) (add-one (a .rest)) (c .before .before .before .before .before .chain .ensures .1))
-
+level-loop-holds t c = let s = c .before .before .before .before .before .before .before .before .before .before .before .before .before in let a = s .args in (
+  level-start (a .head .n) (a .rest) (a .rows) (a .head .exponents) (a .work .now) (a .out .now) (a .room) (a .at) (s .pre .1 .0),
+  refl,
+  omega arith,
+  refl,
+  refl,
+  refl,
+  c .before .before .before .before .before .chain .kept .1 .1 .1 .1 .0 ∙ length-replicate {A = ℕ} 256 0,
+  subst (λ (m : ℕ). Linked (firstRows m (a .rows) (a .work .now)) (c .before .before .before .before .before .chain .last .1 .1 .1 .0)) (add-one (a .rest)) (c .before .before .before .before .before .chain .ensures .0),
+  subst (λ (m : ℕ). Firsts (firstRows m (a .rows) (a .work .now)) (c .before .before .before .before .before .chain .last .1 .1 .1 .1 .0)) (add-one (a .rest)) (c .before .before .before .before .before .chain .ensures .1),
+)
 
 level-slice-aggregate-step : (t : ℕ) → level-lts.Need-slice-aggregate-step (
   last-variable-reads.Asked,
@@ -230,7 +219,6 @@ level-slice-aggregate-step : (t : ℕ) → level-lts.Need-slice-aggregate-step (
 ) (level-at t) level.Post level-Inv-loop level-μ-loop
 level-slice-aggregate-step t c = search needs
 
-
 level-step-requires : (t : ℕ) → level-lts.Need-step-requires (
   last-variable-reads.Asked,
   last-variable-reads.Learnt,
@@ -242,11 +230,19 @@ level-step-requires : (t : ℕ) → level-lts.Need-step-requires (
   step.Post,
 ) (level-at t) level.Post level-Inv-loop level-μ-loop
 level-step-requires t c κs = let s = c .before .before .before .before .before .before .before .before .before .before .before .before .before .before .before .before .before .before .before in let a = s .args in let l = c .before .before .before .before .before .loop in
-    let same : firstRows (suc (a .rest)) (a .rows) (l .work) ≡ firstRows (suc (a .rest)) (a .rows) (a .work .now) = l .inv .0 .table in
-    (omega (arith, s .pre .0), (roomy-as (s .pre .1 .0) (l .work) (l .out) (l .w .end) (l .inv .3) (l .inv .4) (l .inv .0 .within), omega arith, omega (arith, c .before .before .before .before .before .before .head-count .ensures .1), omega (arith, s .pre .1 .1, l .inv .5, c .before .before .before .before .before .before .before .before .before .before .before .chain .kept .1 .1 .1 .0), l .inv .6,
-    rw same (l .inv .7), rw same (l .inv .8),
-    (firstRows (suc (a .rest)) (a .rows) (a .work .now), a .at, take (a .at * a .head .n) (a .out .now), l .inv .0)))
-
+    let same : firstRows (suc (a .rest)) (a .rows) (l .work) ≡ firstRows (suc (a .rest)) (a .rows) (a .work .now) = l .inv .0 .table in (
+      omega (arith, s .pre .0),
+      (
+        roomy-as (s .pre .1 .0) (l .work) (l .out) (l .w .end) (l .inv .3) (l .inv .4) (l .inv .0 .within),
+        omega arith,
+        omega (arith, c .before .before .before .before .before .before .head-count .ensures .1),
+        omega (arith, s .pre .1 .1, l .inv .5, c .before .before .before .before .before .before .before .before .before .before .before .chain .kept .1 .1 .1 .0),
+        l .inv .6,
+        rw same (l .inv .7),
+        rw same (l .inv .8),
+        (firstRows (suc (a .rest)) (a .rows) (a .work .now), a .at, take (a .at * a .head .n) (a .out .now), l .inv .0),
+      ),
+    )
 
 level-same-length-3 : (t : ℕ) → level-lts.Need-same-length-3 (
   last-variable-reads.Asked,
@@ -260,7 +256,6 @@ level-same-length-3 : (t : ℕ) → level-lts.Need-same-length-3 (
 ) (level-at t) level.Post level-Inv-loop level-μ-loop
 level-same-length-3 t c = search needs
 
-
 level-same-length-4 : (t : ℕ) → level-lts.Need-same-length-4 (
   last-variable-reads.Asked,
   last-variable-reads.Learnt,
@@ -273,7 +268,6 @@ level-same-length-4 : (t : ℕ) → level-lts.Need-same-length-4 (
 ) (level-at t) level.Post level-Inv-loop level-μ-loop
 level-same-length-4 t c = search needs
 
-
 level-same-length-5 : (t : ℕ) → level-lts.Need-same-length-5 (
   last-variable-reads.Asked,
   last-variable-reads.Learnt,
@@ -285,7 +279,6 @@ level-same-length-5 : (t : ℕ) → level-lts.Need-same-length-5 (
   step.Post,
 ) (level-at t) level.Post level-Inv-loop level-μ-loop
 level-same-length-5 t c = search needs
-
 
 level-returns-2 : (t : ℕ) → level-lts.Need-returns-2 (
   last-variable-reads.Asked,
@@ -301,7 +294,6 @@ level-returns-2 t c = let s = c .before .before .before .before .before .before 
     let q = c .before .before .before .before .before .before .before .before .step .ensures .1 (firstRows (suc (a .rest)) (a .rows) (a .work .now)) (a .at) (take (a .at * a .head .n) (a .out .now)) (l .inv .0) in
     level-full (a .head .n) (a .rest) (a .rows) (a .head .exponents) (a .work .now) (a .out .now) (a .room) (a .at) (s .pre .1 .0) (l .a) (l .work) _ _ _ (l .inv .1) q (c .if2 .taken)
 
-
 level-add-a : (t : ℕ) → level-lts.Need-add-a (
   last-variable-reads.Asked,
   last-variable-reads.Learnt,
@@ -313,7 +305,6 @@ level-add-a : (t : ℕ) → level-lts.Need-add-a (
   step.Post,
 ) (level-at t) level.Post level-Inv-loop level-μ-loop
 level-add-a t c = search needs
-
 
 level-loop-less : (t : ℕ) → level-lts.Need-loop-less (
   last-variable-reads.Asked,
@@ -327,7 +318,6 @@ level-loop-less : (t : ℕ) → level-lts.Need-loop-less (
 ) (level-at t) level.Post level-Inv-loop level-μ-loop
 level-loop-less t c = search needs
 
-
 level-loop-again : (t : ℕ) → level-lts.Need-loop-again (
   last-variable-reads.Asked,
   last-variable-reads.Learnt,
@@ -340,10 +330,17 @@ level-loop-again : (t : ℕ) → level-lts.Need-loop-again (
 ) (level-at t) level.Post level-Inv-loop level-μ-loop
 level-loop-again t c = let s = c .before .before .before .before .before .before .before .before .before .before .before .before .before .before .before .before .before .before .before .before .before .before .before .before .before .before .before .before in let a = s .args in let l = c .before .before .before .before .before .before .before .before .before .before .before .before .before .before .loop in
     let T = firstRows (suc (a .rest)) (a .rows) (a .work .now) in
-    let q = c .before .before .before .before .before .before .before .before .step .ensures .1 T (a .at) (take (a .at * a .head .n) (a .out .now)) (l .inv .0) in
-    (rw (add-one (l .a)) (q .on (c .if2 .left)), q .kept ∙ l .inv .1, omega arith, c .before .before .before .before .before .before .before .before .step .kept .0 ∙ l .inv .3, c .before .before .before .before .before .before .before .before .step .kept .1 .1 .1 .1 .1 .1 .0 ∙ l .inv .4, c .before .before .before .before .before .before .before .before .step .kept .1 .0 ∙ l .inv .5, l .inv .6,
-    linked-as T (a .rows) (l .next) (c .before .before .before .before .before .before .before .before .step .last .1 .0) (length-firstRows (suc (a .rest)) (a .rows) (a .work .now)) (c .before .before .before .before .before .before .before .before .step .ensures .0) (l .inv .7), l .inv .8)
-
+    let q = c .before .before .before .before .before .before .before .before .step .ensures .1 T (a .at) (take (a .at * a .head .n) (a .out .now)) (l .inv .0) in (
+      rw (add-one (l .a)) (q .on (c .if2 .left)),
+      q .kept ∙ l .inv .1,
+      omega arith,
+      c .before .before .before .before .before .before .before .before .step .kept .0 ∙ l .inv .3,
+      c .before .before .before .before .before .before .before .before .step .kept .1 .1 .1 .1 .1 .1 .0 ∙ l .inv .4,
+      c .before .before .before .before .before .before .before .before .step .kept .1 .0 ∙ l .inv .5,
+      l .inv .6,
+      linked-as T (a .rows) (l .next) (c .before .before .before .before .before .before .before .before .step .last .1 .0) (length-firstRows (suc (a .rest)) (a .rows) (a .work .now)) (c .before .before .before .before .before .before .before .before .step .ensures .0) (l .inv .7),
+      l .inv .8,
+    )
 
 level-same-length-6 : (t : ℕ) → level-lts.Need-same-length-6 (
   last-variable-reads.Asked,
@@ -357,7 +354,6 @@ level-same-length-6 : (t : ℕ) → level-lts.Need-same-length-6 (
 ) (level-at t) level.Post level-Inv-loop level-μ-loop
 level-same-length-6 t c = search needs
 
-
 level-same-length-7 : (t : ℕ) → level-lts.Need-same-length-7 (
   last-variable-reads.Asked,
   last-variable-reads.Learnt,
@@ -370,7 +366,6 @@ level-same-length-7 : (t : ℕ) → level-lts.Need-same-length-7 (
 ) (level-at t) level.Post level-Inv-loop level-μ-loop
 level-same-length-7 t c = search needs
 
-
 level-same-length-8 : (t : ℕ) → level-lts.Need-same-length-8 (
   last-variable-reads.Asked,
   last-variable-reads.Learnt,
@@ -382,7 +377,6 @@ level-same-length-8 : (t : ℕ) → level-lts.Need-same-length-8 (
   step.Post,
 ) (level-at t) level.Post level-Inv-loop level-μ-loop
 level-same-length-8 t c = search needs
-
 
 level-returns-3 : (t : ℕ) → level-lts.Need-returns-3 (
   last-variable-reads.Asked,
@@ -398,7 +392,6 @@ level-returns-3 t c = let s = c .before .before .before .before .before .before 
     let h : c .before .before .head-count .result ≡ heads (firstRows (suc (a .rest)) (a .rows) (a .work .now)) = c .before .before .head-count .ensures .0 ∙ ap (λ (m : ℕ). heads (firstRows m (a .rows) (a .work .now))) (add-one (a .rest)) in
     level-done (a .head .n) (a .rest) (a .rows) (a .head .exponents) (a .work .now) (a .out .now) (a .room) (a .at) (s .pre .1 .0) (l .a) (l .work) (l .out) (l .w) (omega arith) (l .inv .1) (l .inv .0)
 
-
 step-add-base : (t : ℕ) → step-lts.Need-add-base (
   take-tails-reads.Asked,
   take-tails-reads.Learnt,
@@ -412,7 +405,6 @@ step-add-base : (t : ℕ) → step-lts.Need-add-base (
   compact-reads.Learnt,
 ) (step-at t) step.Post
 step-add-base t c = search needs
-
 
 step-mul-base : (t : ℕ) → step-lts.Need-mul-base (
   take-tails-reads.Asked,
@@ -432,7 +424,6 @@ step-mul-base t c = let s = c .before .before .before .before in let a = s .args
     let f = few (q .7 .0) (q .7 .1) (q .7 .2) (a .head .n) (a .rest) (a .rows) (a .head .exponents) (a .room) (a .a) (a .work .now) (a .out .now) (a .w) S (q .0 .variables) (omega (arith, q .0 .six)) (table-wide (q .0)) (q .0 .holds) in
     let g = tails-wide (q .0) in
     omega arith
-
 
 step-mul-take-tails : (t : ℕ) → step-lts.Need-mul-take-tails (
   take-tails-reads.Asked,
@@ -454,7 +445,6 @@ step-mul-take-tails t c = let s = c .before .before .before .before .before .bef
     let h = rows-fewer (a .w .generators) (a .rows) (a .rest) (omega arith) in
     omega arith
 
-
 step-add-take-tails : (t : ℕ) → step-lts.Need-add-take-tails (
   take-tails-reads.Asked,
   take-tails-reads.Learnt,
@@ -474,7 +464,6 @@ step-add-take-tails t c = let s = c .before .before .before .before .before .bef
     let g = tails-wide (q .0) in
     let h = rows-fewer (a .w .generators) (a .rows) (a .rest) (omega arith) in
     omega arith
-
 
 step-take-tails-requires : (t : ℕ) → step-lts.Need-take-tails-requires (
   take-tails-reads.Asked,
@@ -497,7 +486,6 @@ step-take-tails-requires t c κs = let s = c .before .before .before .before .be
     let large = times-large (a .rows) (a .rest) (q .1) in
     (omega arith, omega arith, omega (arith, q .3), q .0 .many, omega (arith, q .4, q .2), q .2, q .5, q .6)
 
-
 step-grows-requires : (t : ℕ) → step-lts.Need-grows-requires (
   take-tails-reads.Asked,
   take-tails-reads.Learnt,
@@ -518,7 +506,6 @@ step-grows-requires t c κs = let s = c .before .before .before .before .before 
     let h = rows-fewer (a .w .generators + c .before .before .before .take-tails .result) (a .rows) (a .rest) (omega (arith, c .before .before .before .take-tails .ensures .0)) in
     omega (arith, c .before .before .before .take-tails .kept .0)
 
-
 step-same-length : (t : ℕ) → step-lts.Need-same-length (
   take-tails-reads.Asked,
   take-tails-reads.Learnt,
@@ -533,7 +520,6 @@ step-same-length : (t : ℕ) → step-lts.Need-same-length (
 ) (step-at t) step.Post
 step-same-length t c = search needs
 
-
 step-same-length-2 : (t : ℕ) → step-lts.Need-same-length-2 (
   take-tails-reads.Asked,
   take-tails-reads.Learnt,
@@ -547,7 +533,6 @@ step-same-length-2 : (t : ℕ) → step-lts.Need-same-length-2 (
   compact-reads.Learnt,
 ) (step-at t) step.Post
 step-same-length-2 t c = search needs
-
 
 step-returns : (t : ℕ) → step-lts.Need-returns (
   take-tails-reads.Asked,
@@ -568,12 +553,12 @@ step-returns t c = let s = c .before .before .before .before .before .before .be
     let base : ℕ = a .rows * (a .rest + 1) in
     let base-is : base ≡ a .rows * suc (a .rest) = omega arith in
     let six : a .head .n ≤ length (a .head .exponents) = omega (arith, q .0 .six) in
-    let cap : base + a .rows * a .rest ≤ length (a .work .now) = omega arith in
-    (refl,
-    λ T start P S.
-    let fresh-is = grows-as T start P (a .head .n) (a .rest) (a .rows) (a .head .exponents) (a .room) (a .a) (a .work .now) (a .out .now) (a .w) S (q .0 .variables) six (table-wide (q .0)) (q .0 .holds) base base-is (k .result) (k .last .0) (k .kept .0) (k .ensures .0) (k .ensures .1) (k .ensures .2) cap (c .before .grows .result) (c .before .grows .ensures) in
-    step-stays T start P (a .head .n) (a .rest) (a .rows) (a .head .exponents) (a .room) (a .a) (a .work .now) (a .out .now) (a .w) S (q .0 .variables) six (table-wide (q .0)) (q .0 .holds) base base-is (k .result) (k .last .0) (k .kept .0) (k .ensures .0) (k .ensures .1) (k .ensures .2) cap (fresh-is ∙ not-true _ (c .if1 .taken)))
-
+    let cap : base + a .rows * a .rest ≤ length (a .work .now) = omega arith in (
+      refl,
+      λ T start P S.
+          let fresh-is = grows-as T start P (a .head .n) (a .rest) (a .rows) (a .head .exponents) (a .room) (a .a) (a .work .now) (a .out .now) (a .w) S (q .0 .variables) six (table-wide (q .0)) (q .0 .holds) base base-is (k .result) (k .last .0) (k .kept .0) (k .ensures .0) (k .ensures .1) (k .ensures .2) cap (c .before .grows .result) (c .before .grows .ensures) in
+          step-stays T start P (a .head .n) (a .rest) (a .rows) (a .head .exponents) (a .room) (a .a) (a .work .now) (a .out .now) (a .w) S (q .0 .variables) six (table-wide (q .0)) (q .0 .holds) base base-is (k .result) (k .last .0) (k .kept .0) (k .ensures .0) (k .ensures .1) (k .ensures .2) cap (fresh-is ∙ not-true _ (c .if1 .taken)),
+    )
 
 step-add-repeat : (t : ℕ) → step-lts.Need-add-repeat (
   take-tails-reads.Asked,
@@ -589,7 +574,6 @@ step-add-repeat : (t : ℕ) → step-lts.Need-add-repeat (
 ) (step-at t) step.Post
 step-add-repeat t c = search needs
 
-
 step-sub-repeat : (t : ℕ) → step-lts.Need-sub-repeat (
   take-tails-reads.Asked,
   take-tails-reads.Learnt,
@@ -603,7 +587,6 @@ step-sub-repeat : (t : ℕ) → step-lts.Need-sub-repeat (
   compact-reads.Learnt,
 ) (step-at t) step.Post
 step-sub-repeat t c = search needs
-
 
 step-repeat-requires : (t : ℕ) → step-lts.Need-repeat-requires (
   take-tails-reads.Asked,
@@ -624,7 +607,6 @@ step-repeat-requires t c κs = let s = c .before .before .before .before .before
     let g = tails-wide (q .0) in
     (omega (arith, S .block), S .within, q .0 .holds, q .0 .most, omega (arith, q .0 .variables), omega arith, omega (arith, S .last, walk-last (λ H. slices (a .rest) H) (q .7 .0) (a .a)))
 
-
 step-same-length-3 : (t : ℕ) → step-lts.Need-same-length-3 (
   take-tails-reads.Asked,
   take-tails-reads.Learnt,
@@ -638,7 +620,6 @@ step-same-length-3 : (t : ℕ) → step-lts.Need-same-length-3 (
   compact-reads.Learnt,
 ) (step-at t) step.Post
 step-same-length-3 t c = search needs
-
 
 step-same-length-4 : (t : ℕ) → step-lts.Need-same-length-4 (
   take-tails-reads.Asked,
@@ -654,7 +635,6 @@ step-same-length-4 : (t : ℕ) → step-lts.Need-same-length-4 (
 ) (step-at t) step.Post
 step-same-length-4 t c = search needs
 
-
 step-same-length-5 : (t : ℕ) → step-lts.Need-same-length-5 (
   take-tails-reads.Asked,
   take-tails-reads.Learnt,
@@ -668,7 +648,6 @@ step-same-length-5 : (t : ℕ) → step-lts.Need-same-length-5 (
   compact-reads.Learnt,
 ) (step-at t) step.Post
 step-same-length-5 t c = search needs
-
 
 step-returns-2 : (t : ℕ) → step-lts.Need-returns-2 (
   take-tails-reads.Asked,
@@ -689,12 +668,12 @@ step-returns-2 t c = let s = c .before .before .before .before .before .before .
     let base : ℕ = a .rows * (a .rest + 1) in
     let base-is : base ≡ a .rows * suc (a .rest) = omega arith in
     let six : a .head .n ≤ length (a .head .exponents) = omega (arith, q .0 .six) in
-    let cap : base + a .rows * a .rest ≤ length (a .work .now) = omega arith in
-    (refl,
-    λ T start P S.
-    let fresh-is = grows-as T start P (a .head .n) (a .rest) (a .rows) (a .head .exponents) (a .room) (a .a) (a .work .now) (a .out .now) (a .w) S (q .0 .variables) six (table-wide (q .0)) (q .0 .holds) base base-is (k .result) (k .last .0) (k .kept .0) (k .ensures .0) (k .ensures .1) (k .ensures .2) cap (c .before .before .before .before .before .before .grows .result) (c .before .before .before .before .before .before .grows .ensures) in
-    step-full T start P (a .head .n) (a .rest) (a .rows) (a .head .exponents) (a .room) (a .a) (a .work .now) (a .out .now) (a .w) S (q .0 .variables) six (table-wide (q .0)) (q .0 .holds) base base-is (k .result) (k .last .0) (k .kept .0) (k .ensures .0) (k .ensures .1) (k .ensures .2) cap (fresh-is ∙ not-false _ (c .before .before .before .before .before .if1 .left)) (a .head .n - (a .rest + 1)) (omega arith) (c .before .before .before .repeat .result) (c .before .before .before .repeat .last .0) (c .before .before .before .repeat .ensures .0) (c .before .before .before .repeat .ensures .1) (c .if2 .taken) (c .before .before .before .repeat .last .0))
-
+    let cap : base + a .rows * a .rest ≤ length (a .work .now) = omega arith in (
+      refl,
+      λ T start P S.
+          let fresh-is = grows-as T start P (a .head .n) (a .rest) (a .rows) (a .head .exponents) (a .room) (a .a) (a .work .now) (a .out .now) (a .w) S (q .0 .variables) six (table-wide (q .0)) (q .0 .holds) base base-is (k .result) (k .last .0) (k .kept .0) (k .ensures .0) (k .ensures .1) (k .ensures .2) cap (c .before .before .before .before .before .before .grows .result) (c .before .before .before .before .before .before .grows .ensures) in
+          step-full T start P (a .head .n) (a .rest) (a .rows) (a .head .exponents) (a .room) (a .a) (a .work .now) (a .out .now) (a .w) S (q .0 .variables) six (table-wide (q .0)) (q .0 .holds) base base-is (k .result) (k .last .0) (k .kept .0) (k .ensures .0) (k .ensures .1) (k .ensures .2) cap (fresh-is ∙ not-false _ (c .before .before .before .before .before .if1 .left)) (a .head .n - (a .rest + 1)) (omega arith) (c .before .before .before .repeat .result) (c .before .before .before .repeat .last .0) (c .before .before .before .repeat .ensures .0) (c .before .before .before .repeat .ensures .1) (c .if2 .taken) (c .before .before .before .repeat .last .0),
+    )
 
 step-cast-longer : (t : ℕ) → step-lts.Need-cast-longer (
   take-tails-reads.Asked,
@@ -710,7 +689,6 @@ step-cast-longer : (t : ℕ) → step-lts.Need-cast-longer (
 ) (step-at t) step.Post
 step-cast-longer t c = search needs
 
-
 step-add-longer : (t : ℕ) → step-lts.Need-add-longer (
   take-tails-reads.Asked,
   take-tails-reads.Learnt,
@@ -724,7 +702,6 @@ step-add-longer : (t : ℕ) → step-lts.Need-add-longer (
   compact-reads.Learnt,
 ) (step-at t) step.Post
 step-add-longer t c = search needs
-
 
 step-sub-longer : (t : ℕ) → step-lts.Need-sub-longer (
   take-tails-reads.Asked,
@@ -740,7 +717,6 @@ step-sub-longer : (t : ℕ) → step-lts.Need-sub-longer (
 ) (step-at t) step.Post
 step-sub-longer t c = search needs
 
-
 step-element-write-longer : (t : ℕ) → step-lts.Need-element-write-longer (
   take-tails-reads.Asked,
   take-tails-reads.Learnt,
@@ -754,7 +730,6 @@ step-element-write-longer : (t : ℕ) → step-lts.Need-element-write-longer (
   compact-reads.Learnt,
 ) (step-at t) step.Post
 step-element-write-longer t c = search needs
-
 
 step-add-all : (t : ℕ) → step-lts.Need-add-all (
   take-tails-reads.Asked,
@@ -775,7 +750,6 @@ step-add-all t c = let s = c .before .before .before .before .before .before .be
     let g = tails-wide (q .0) in
     omega (arith, c .before .before .before .before .before .before .before .before .before .before .take-tails .ensures .0, q .0 .many)
 
-
 step-sub-level : (t : ℕ) → step-lts.Need-sub-level (
   take-tails-reads.Asked,
   take-tails-reads.Learnt,
@@ -794,7 +768,6 @@ step-sub-level t c = let s = c .before .before .before .before .before .before .
     let f = few (q .7 .0) (q .7 .1) (q .7 .2) (a .head .n) (a .rest) (a .rows) (a .head .exponents) (a .room) (a .a) (a .work .now) (a .out .now) (a .w) S (q .0 .variables) (omega (arith, q .0 .six)) (table-wide (q .0)) (q .0 .holds) in
     let g = tails-wide (q .0) in
     omega (arith, c .before .before .before .before .before .before .before .before .before .before .take-tails .kept .0)
-
 
 step-part-level-start : (t : ℕ) → step-lts.Need-part-level-start (
   take-tails-reads.Asked,
@@ -815,7 +788,6 @@ step-part-level-start t c = let s = c .before .before .before .before .before .b
     let g = tails-wide (q .0) in
     omega (arith, c .before .before .before .before .before .before .before .before .before .before .take-tails .kept .0)
 
-
 step-part-level-end : (t : ℕ) → step-lts.Need-part-level-end (
   take-tails-reads.Asked,
   take-tails-reads.Learnt,
@@ -829,7 +801,6 @@ step-part-level-end : (t : ℕ) → step-lts.Need-part-level-end (
   compact-reads.Learnt,
 ) (step-at t) step.Post
 step-part-level-end t c = search needs
-
 
 step-mul-level : (t : ℕ) → step-lts.Need-mul-level (
   take-tails-reads.Asked,
@@ -850,7 +821,6 @@ step-mul-level t c = let s = c .before .before .before .before .before .before .
     let g = tails-wide (q .0) in
     omega (arith, times-large (a .rows) (a .rest) (q .1), q .3)
 
-
 step-sub-level-2 : (t : ℕ) → step-lts.Need-sub-level-2 (
   take-tails-reads.Asked,
   take-tails-reads.Learnt,
@@ -869,7 +839,6 @@ step-sub-level-2 t c = let s = c .before .before .before .before .before .before
     let f = few (q .7 .0) (q .7 .1) (q .7 .2) (a .head .n) (a .rest) (a .rows) (a .head .exponents) (a .room) (a .a) (a .work .now) (a .out .now) (a .w) S (q .0 .variables) (omega (arith, q .0 .six)) (table-wide (q .0)) (q .0 .holds) in
     let g = tails-wide (q .0) in
     omega (arith, times-large (a .rows) (a .rest) (q .1), q .3)
-
 
 step-part-level-start-2 : (t : ℕ) → step-lts.Need-part-level-start-2 (
   take-tails-reads.Asked,
@@ -890,7 +859,6 @@ step-part-level-start-2 t c = let s = c .before .before .before .before .before 
     let g = tails-wide (q .0) in
     omega (arith, times-large (a .rows) (a .rest) (q .1), q .3)
 
-
 step-part-level-end-2 : (t : ℕ) → step-lts.Need-part-level-end-2 (
   take-tails-reads.Asked,
   take-tails-reads.Learnt,
@@ -905,7 +873,6 @@ step-part-level-end-2 : (t : ℕ) → step-lts.Need-part-level-end-2 (
 ) (step-at t) step.Post
 step-part-level-end-2 t c = search needs
 
-
 step-sub-level-3 : (t : ℕ) → step-lts.Need-sub-level-3 (
   take-tails-reads.Asked,
   take-tails-reads.Learnt,
@@ -919,7 +886,6 @@ step-sub-level-3 : (t : ℕ) → step-lts.Need-sub-level-3 (
   compact-reads.Learnt,
 ) (step-at t) step.Post
 step-sub-level-3 t c = search needs
-
 
 step-level-requires : (t : ℕ) → step-lts.Need-level-requires (
   take-tails-reads.Asked,
@@ -945,7 +911,6 @@ step-level-requires t c κs = let s = c .before .before .before .before .before 
     let h : (a .w .generators + k .result) * (a .rest - 1) ≤ a .rows * (a .rest - 1) = rows-fewer (a .w .generators + k .result) (a .rows) (a .rest - 1) (omega (arith, k .ensures .0)) in
     (omega (arith, s .pre .0), (next-roomy (q .0) (q .1) (a .w .generators + k .result) (omega (arith, k .ensures .0)) _ _ (c .before .before .before .before .before .before .repeat .result) (n ∙ omega (arith, k .kept .0)) (c .before .before .before .before .before .before .repeat .kept .0) (c .before .before .before .if2 .left), omega (arith, q .3)))
 
-
 step-same-length-6 : (t : ℕ) → step-lts.Need-same-length-6 (
   take-tails-reads.Asked,
   take-tails-reads.Learnt,
@@ -963,7 +928,6 @@ step-same-length-6 t c = let a = c .before .before .before .before .before .befo
     let same : length (putMid base (length (k .last .0) - base) (k .last .0) (v .last .0)) ≡ length (a .work .now) = same-len-mid base (length (k .last .0) - base) (k .last .0) (v .last .0) (v .kept .0) ∙ k .kept .0 in
     same
 
-
 step-same-length-7 : (t : ℕ) → step-lts.Need-same-length-7 (
   take-tails-reads.Asked,
   take-tails-reads.Learnt,
@@ -978,7 +942,6 @@ step-same-length-7 : (t : ℕ) → step-lts.Need-same-length-7 (
 ) (step-at t) step.Post
 step-same-length-7 t c = search needs
 
-
 step-same-length-8 : (t : ℕ) → step-lts.Need-same-length-8 (
   take-tails-reads.Asked,
   take-tails-reads.Learnt,
@@ -992,7 +955,6 @@ step-same-length-8 : (t : ℕ) → step-lts.Need-same-length-8 (
   compact-reads.Learnt,
 ) (step-at t) step.Post
 step-same-length-8 t c = search needs
-
 
 step-returns-3 : (t : ℕ) → step-lts.Need-returns-3 (
   take-tails-reads.Asked,
@@ -1017,12 +979,12 @@ step-returns-3 t c = let s = c .before .before .before .before .before .before .
     let r = c .before .before .before .before .before .before .before .before .before .before .before .before .before .before .repeat in let v = c .before .before .before .before .before .before .before .level in
     let large = times-large (a .rows) (a .rest) (q .1) in
     let held : base ≤ length (k .last .0) = omega (arith, k .kept .0) in
-    let same : length (putMid base (length (k .last .0) - base) (k .last .0) (v .last .0)) ≡ length (a .work .now) = same-len-mid base (length (k .last .0) - base) (k .last .0) (v .last .0) (v .kept .0) ∙ k .kept .0 in
-    (take-put (a .rows) (length (a .next .now) - a .rows) (a .next .now) (v .last .1 .0) (omega (arith, q .3)),
-    λ T start P S.
-    let fresh-is = grows-as T start P (a .head .n) (a .rest) (a .rows) (a .head .exponents) (a .room) (a .a) (a .work .now) (a .out .now) (a .w) S (q .0 .variables) six (table-wide (q .0)) (q .0 .holds) base base-is (k .result) (k .last .0) (k .kept .0) (k .ensures .0) (k .ensures .1) (k .ensures .2) cap (c .before .before .before .before .before .before .before .before .before .before .before .before .before .before .before .before .before .grows .result) (c .before .before .before .before .before .before .before .before .before .before .before .before .before .before .before .before .before .grows .ensures) in
-    step-over T start P (a .head .n) (a .rest) (a .rows) (a .head .exponents) (a .room) (a .a) (a .work .now) (a .out .now) (a .w) S (q .0 .variables) six (table-wide (q .0)) (q .0 .holds) base base-is (k .result) (k .last .0) (k .kept .0) (k .ensures .0) (k .ensures .1) (k .ensures .2) cap (fresh-is ∙ not-false _ (c .before .before .before .before .before .before .before .before .before .before .before .before .before .before .before .before .if1 .left)) (a .head .n - (a .rest + 1)) (omega arith) (r .result) (r .last .0) (r .ensures .0) (r .ensures .1) (c .before .before .before .before .before .before .before .before .before .before .before .if2 .left) (take (length (k .last .0) - base) (drop base (k .last .0))) (lent-all base (k .last .0)) (set (a .head .exponents) (a .head .n - (a .rest + 1)) (a .a)) refl (v .result) (v .last .0) (v .last .1 .1 .1 .1 .1 .0) (q .1) (v .ensures) (c .if3 .taken) _ _ (take-put base (length (k .last .0) - base) (k .last .0) (v .last .0) held))
-
+    let same : length (putMid base (length (k .last .0) - base) (k .last .0) (v .last .0)) ≡ length (a .work .now) = same-len-mid base (length (k .last .0) - base) (k .last .0) (v .last .0) (v .kept .0) ∙ k .kept .0 in (
+      take-put (a .rows) (length (a .next .now) - a .rows) (a .next .now) (v .last .1 .0) (omega (arith, q .3)),
+      λ T start P S.
+          let fresh-is = grows-as T start P (a .head .n) (a .rest) (a .rows) (a .head .exponents) (a .room) (a .a) (a .work .now) (a .out .now) (a .w) S (q .0 .variables) six (table-wide (q .0)) (q .0 .holds) base base-is (k .result) (k .last .0) (k .kept .0) (k .ensures .0) (k .ensures .1) (k .ensures .2) cap (c .before .before .before .before .before .before .before .before .before .before .before .before .before .before .before .before .before .grows .result) (c .before .before .before .before .before .before .before .before .before .before .before .before .before .before .before .before .before .grows .ensures) in
+          step-over T start P (a .head .n) (a .rest) (a .rows) (a .head .exponents) (a .room) (a .a) (a .work .now) (a .out .now) (a .w) S (q .0 .variables) six (table-wide (q .0)) (q .0 .holds) base base-is (k .result) (k .last .0) (k .kept .0) (k .ensures .0) (k .ensures .1) (k .ensures .2) cap (fresh-is ∙ not-false _ (c .before .before .before .before .before .before .before .before .before .before .before .before .before .before .before .before .if1 .left)) (a .head .n - (a .rest + 1)) (omega arith) (r .result) (r .last .0) (r .ensures .0) (r .ensures .1) (c .before .before .before .before .before .before .before .before .before .before .before .if2 .left) (take (length (k .last .0) - base) (drop base (k .last .0))) (lent-all base (k .last .0)) (set (a .head .exponents) (a .head .n - (a .rest + 1)) (a .a)) refl (v .result) (v .last .0) (v .last .1 .1 .1 .1 .1 .0) (q .1) (v .ensures) (c .if3 .taken) _ _ (take-put base (length (k .last .0) - base) (k .last .0) (v .last .0) held),
+    )
 
 step-sub-if4 : (t : ℕ) → step-lts.Need-sub-if4 (
   take-tails-reads.Asked,
@@ -1037,7 +999,6 @@ step-sub-if4 : (t : ℕ) → step-lts.Need-sub-if4 (
   compact-reads.Learnt,
 ) (step-at t) step.Post
 step-sub-if4 t c = appended-above (c .before .before .before .before .before .before .before .level .ensures) (c .if3 .left)
-
 
 step-same-length-9 : (t : ℕ) → step-lts.Need-same-length-9 (
   take-tails-reads.Asked,
@@ -1056,7 +1017,6 @@ step-same-length-9 t c = let a = c .before .before .before .before .before .befo
     let same : length (putMid base (length (k .last .0) - base) (k .last .0) (v .last .0)) ≡ length (a .work .now) = same-len-mid base (length (k .last .0) - base) (k .last .0) (v .last .0) (v .kept .0) ∙ k .kept .0 in
     same
 
-
 step-same-length-10 : (t : ℕ) → step-lts.Need-same-length-10 (
   take-tails-reads.Asked,
   take-tails-reads.Learnt,
@@ -1071,7 +1031,6 @@ step-same-length-10 : (t : ℕ) → step-lts.Need-same-length-10 (
 ) (step-at t) step.Post
 step-same-length-10 t c = search needs
 
-
 step-same-length-11 : (t : ℕ) → step-lts.Need-same-length-11 (
   take-tails-reads.Asked,
   take-tails-reads.Learnt,
@@ -1085,7 +1044,6 @@ step-same-length-11 : (t : ℕ) → step-lts.Need-same-length-11 (
   compact-reads.Learnt,
 ) (step-at t) step.Post
 step-same-length-11 t c = c .before .before .before .before .before .before .before .before .level .kept .1 .1 .1 .1 .1 .0 ∙ c .before .before .before .before .before .before .before .before .before .before .before .before .before .before .before .repeat .kept .0
-
 
 step-returns-4 : (t : ℕ) → step-lts.Need-returns-4 (
   take-tails-reads.Asked,
@@ -1110,12 +1068,12 @@ step-returns-4 t c = let s = c .before .before .before .before .before .before .
     let r = c .before .before .before .before .before .before .before .before .before .before .before .before .before .before .before .repeat in let v = c .before .before .before .before .before .before .before .before .level in
     let large = times-large (a .rows) (a .rest) (q .1) in
     let held : base ≤ length (k .last .0) = omega (arith, k .kept .0) in
-    let same : length (putMid base (length (k .last .0) - base) (k .last .0) (v .last .0)) ≡ length (a .work .now) = same-len-mid base (length (k .last .0) - base) (k .last .0) (v .last .0) (v .kept .0) ∙ k .kept .0 in
-    (take-put (a .rows) (length (a .next .now) - a .rows) (a .next .now) (v .last .1 .0) (omega (arith, q .3)),
-    λ T start P S.
-    let fresh-is = grows-as T start P (a .head .n) (a .rest) (a .rows) (a .head .exponents) (a .room) (a .a) (a .work .now) (a .out .now) (a .w) S (q .0 .variables) six (table-wide (q .0)) (q .0 .holds) base base-is (k .result) (k .last .0) (k .kept .0) (k .ensures .0) (k .ensures .1) (k .ensures .2) cap (c .before .before .before .before .before .before .before .before .before .before .before .before .before .before .before .before .before .before .grows .result) (c .before .before .before .before .before .before .before .before .before .before .before .before .before .before .before .before .before .before .grows .ensures) in
-    step-keeps T start P (a .head .n) (a .rest) (a .rows) (a .head .exponents) (a .room) (a .a) (a .work .now) (a .out .now) (a .w) S (q .0 .variables) six (table-wide (q .0)) (q .0 .holds) base base-is (k .result) (k .last .0) (k .kept .0) (k .ensures .0) (k .ensures .1) (k .ensures .2) cap (fresh-is ∙ not-false _ (c .before .before .before .before .before .before .before .before .before .before .before .before .before .before .before .before .before .if1 .left)) (a .head .n - (a .rest + 1)) (omega arith) (r .result) (r .last .0) (r .ensures .0) (r .ensures .1) (c .before .before .before .before .before .before .before .before .before .before .before .before .if2 .left) (take (length (k .last .0) - base) (drop base (k .last .0))) (lent-all base (k .last .0)) (set (a .head .exponents) (a .head .n - (a .rest + 1)) (a .a)) refl (v .result) (v .last .0) (v .last .1 .1 .1 .1 .1 .0) (q .1) (v .ensures) (c .before .if3 .left) (c .if4 .taken) _ _ same (v .kept .0) refl)
-
+    let same : length (putMid base (length (k .last .0) - base) (k .last .0) (v .last .0)) ≡ length (a .work .now) = same-len-mid base (length (k .last .0) - base) (k .last .0) (v .last .0) (v .kept .0) ∙ k .kept .0 in (
+      take-put (a .rows) (length (a .next .now) - a .rows) (a .next .now) (v .last .1 .0) (omega (arith, q .3)),
+      λ T start P S.
+          let fresh-is = grows-as T start P (a .head .n) (a .rest) (a .rows) (a .head .exponents) (a .room) (a .a) (a .work .now) (a .out .now) (a .w) S (q .0 .variables) six (table-wide (q .0)) (q .0 .holds) base base-is (k .result) (k .last .0) (k .kept .0) (k .ensures .0) (k .ensures .1) (k .ensures .2) cap (c .before .before .before .before .before .before .before .before .before .before .before .before .before .before .before .before .before .before .grows .result) (c .before .before .before .before .before .before .before .before .before .before .before .before .before .before .before .before .before .before .grows .ensures) in
+          step-keeps T start P (a .head .n) (a .rest) (a .rows) (a .head .exponents) (a .room) (a .a) (a .work .now) (a .out .now) (a .w) S (q .0 .variables) six (table-wide (q .0)) (q .0 .holds) base base-is (k .result) (k .last .0) (k .kept .0) (k .ensures .0) (k .ensures .1) (k .ensures .2) cap (fresh-is ∙ not-false _ (c .before .before .before .before .before .before .before .before .before .before .before .before .before .before .before .before .before .if1 .left)) (a .head .n - (a .rest + 1)) (omega arith) (r .result) (r .last .0) (r .ensures .0) (r .ensures .1) (c .before .before .before .before .before .before .before .before .before .before .before .before .if2 .left) (take (length (k .last .0) - base) (drop base (k .last .0))) (lent-all base (k .last .0)) (set (a .head .exponents) (a .head .n - (a .rest + 1)) (a .a)) refl (v .result) (v .last .0) (v .last .1 .1 .1 .1 .1 .0) (q .1) (v .ensures) (c .before .if3 .left) (c .if4 .taken) _ _ same (v .kept .0) refl,
+    )
 
 step-sub-compact : (t : ℕ) → step-lts.Need-sub-compact (
   take-tails-reads.Asked,
@@ -1130,7 +1088,6 @@ step-sub-compact : (t : ℕ) → step-lts.Need-sub-compact (
   compact-reads.Learnt,
 ) (step-at t) step.Post
 step-sub-compact t c = appended-above (c .before .before .before .before .before .before .before .before .before .before .level .ensures) (c .before .before .before .if3 .left)
-
 
 step-compact-requires : (t : ℕ) → step-lts.Need-compact-requires (
   take-tails-reads.Asked,
@@ -1158,7 +1115,6 @@ step-compact-requires t c κs = let s = c .before .before .before .before .befor
     let n : (v .result - r .result) * a .rest ≤ a .rows * a .rest = rows-fewer (v .result - r .result) (a .rows) (a .rest) (omega (arith, k .ensures .0)) in
     (rw whole (omega (arith, q .0 .holds)), omega (arith, q .0 .variables), omega arith)
 
-
 step-sub-t19 : (t : ℕ) → step-lts.Need-sub-t19 (
   take-tails-reads.Asked,
   take-tails-reads.Learnt,
@@ -1172,7 +1128,6 @@ step-sub-t19 : (t : ℕ) → step-lts.Need-sub-t19 (
   compact-reads.Learnt,
 ) (step-at t) step.Post
 step-sub-t19 t c = appended-above (c .before .before .before .before .before .before .before .before .before .before .before .before .before .level .ensures) (c .before .before .before .before .before .before .if3 .left)
-
 
 step-same-length-12 : (t : ℕ) → step-lts.Need-same-length-12 (
   take-tails-reads.Asked,
@@ -1191,7 +1146,6 @@ step-same-length-12 t c = let a = c .before .before .before .before .before .bef
     let same : length (putMid base (length (k .last .0) - base) (k .last .0) (v .last .0)) ≡ length (a .work .now) = same-len-mid base (length (k .last .0) - base) (k .last .0) (v .last .0) (v .kept .0) ∙ k .kept .0 in
     c .before .before .compact .kept .0 ∙ same
 
-
 step-same-length-13 : (t : ℕ) → step-lts.Need-same-length-13 (
   take-tails-reads.Asked,
   take-tails-reads.Learnt,
@@ -1206,7 +1160,6 @@ step-same-length-13 : (t : ℕ) → step-lts.Need-same-length-13 (
 ) (step-at t) step.Post
 step-same-length-13 t c = search needs
 
-
 step-same-length-14 : (t : ℕ) → step-lts.Need-same-length-14 (
   take-tails-reads.Asked,
   take-tails-reads.Learnt,
@@ -1220,7 +1173,6 @@ step-same-length-14 : (t : ℕ) → step-lts.Need-same-length-14 (
   compact-reads.Learnt,
 ) (step-at t) step.Post
 step-same-length-14 t c = c .before .before .before .before .before .before .before .before .before .before .before .before .before .level .kept .1 .1 .1 .1 .1 .0 ∙ c .before .before .before .before .before .before .before .before .before .before .before .before .before .before .before .before .before .before .before .before .repeat .kept .0
-
 
 step-returns-5 : (t : ℕ) → step-lts.Need-returns-5 (
   take-tails-reads.Asked,
@@ -1245,11 +1197,12 @@ step-returns-5 t c = let s = c .before .before .before .before .before .before .
     let r = c .before .before .before .before .before .before .before .before .before .before .before .before .before .before .before .before .before .before .before .before .repeat in let v = c .before .before .before .before .before .before .before .before .before .before .before .before .before .level in
     let large = times-large (a .rows) (a .rest) (q .1) in
     let held : base ≤ length (k .last .0) = omega (arith, k .kept .0) in
-    let same : length (putMid base (length (k .last .0) - base) (k .last .0) (v .last .0)) ≡ length (a .work .now) = same-len-mid base (length (k .last .0) - base) (k .last .0) (v .last .0) (v .kept .0) ∙ k .kept .0 in
-    (take-put (a .rows) (length (a .next .now) - a .rows) (a .next .now) (v .last .1 .0) (omega (arith, q .3)),
-    λ T start P S.
-    let fresh-is = grows-as T start P (a .head .n) (a .rest) (a .rows) (a .head .exponents) (a .room) (a .a) (a .work .now) (a .out .now) (a .w) S (q .0 .variables) six (table-wide (q .0)) (q .0 .holds) base base-is (k .result) (k .last .0) (k .kept .0) (k .ensures .0) (k .ensures .1) (k .ensures .2) cap (c .before .before .before .before .before .before .before .before .before .before .before .before .before .before .before .before .before .before .before .before .before .before .before .grows .result) (c .before .before .before .before .before .before .before .before .before .before .before .before .before .before .before .before .before .before .before .before .before .before .before .grows .ensures) in
-    step-takes T start P (a .head .n) (a .rest) (a .rows) (a .head .exponents) (a .room) (a .a) (a .work .now) (a .out .now) (a .w) S (q .0 .variables) six (table-wide (q .0)) (q .0 .holds) base base-is (k .result) (k .last .0) (k .kept .0) (k .ensures .0) (k .ensures .1) (k .ensures .2) cap (fresh-is ∙ not-false _ (c .before .before .before .before .before .before .before .before .before .before .before .before .before .before .before .before .before .before .before .before .before .before .if1 .left)) (a .head .n - (a .rest + 1)) (omega arith) (r .result) (r .last .0) (r .ensures .0) (r .ensures .1) (c .before .before .before .before .before .before .before .before .before .before .before .before .before .before .before .before .before .if2 .left) (take (length (k .last .0) - base) (drop base (k .last .0))) (lent-all base (k .last .0)) (set (a .head .exponents) (a .head .n - (a .rest + 1)) (a .a)) refl (v .result) (v .last .0) (v .last .1 .1 .1 .1 .1 .0) (q .1) (v .ensures) (c .before .before .before .before .before .before .if3 .left) (omega arith) (putMid base (length (k .last .0) - base) (k .last .0) (v .last .0)) _ (c .before .before .compact .kept .0 ∙ same) (take-put base (length (k .last .0) - base) (k .last .0) (v .last .0) held) (c .before .before .compact .ensures))
+    let same : length (putMid base (length (k .last .0) - base) (k .last .0) (v .last .0)) ≡ length (a .work .now) = same-len-mid base (length (k .last .0) - base) (k .last .0) (v .last .0) (v .kept .0) ∙ k .kept .0 in (
+      take-put (a .rows) (length (a .next .now) - a .rows) (a .next .now) (v .last .1 .0) (omega (arith, q .3)),
+      λ T start P S.
+          let fresh-is = grows-as T start P (a .head .n) (a .rest) (a .rows) (a .head .exponents) (a .room) (a .a) (a .work .now) (a .out .now) (a .w) S (q .0 .variables) six (table-wide (q .0)) (q .0 .holds) base base-is (k .result) (k .last .0) (k .kept .0) (k .ensures .0) (k .ensures .1) (k .ensures .2) cap (c .before .before .before .before .before .before .before .before .before .before .before .before .before .before .before .before .before .before .before .before .before .before .before .grows .result) (c .before .before .before .before .before .before .before .before .before .before .before .before .before .before .before .before .before .before .before .before .before .before .before .grows .ensures) in
+          step-takes T start P (a .head .n) (a .rest) (a .rows) (a .head .exponents) (a .room) (a .a) (a .work .now) (a .out .now) (a .w) S (q .0 .variables) six (table-wide (q .0)) (q .0 .holds) base base-is (k .result) (k .last .0) (k .kept .0) (k .ensures .0) (k .ensures .1) (k .ensures .2) cap (fresh-is ∙ not-false _ (c .before .before .before .before .before .before .before .before .before .before .before .before .before .before .before .before .before .before .before .before .before .before .if1 .left)) (a .head .n - (a .rest + 1)) (omega arith) (r .result) (r .last .0) (r .ensures .0) (r .ensures .1) (c .before .before .before .before .before .before .before .before .before .before .before .before .before .before .before .before .before .if2 .left) (take (length (k .last .0) - base) (drop base (k .last .0))) (lent-all base (k .last .0)) (set (a .head .exponents) (a .head .n - (a .rest + 1)) (a .a)) refl (v .result) (v .last .0) (v .last .1 .1 .1 .1 .1 .0) (q .1) (v .ensures) (c .before .before .before .before .before .before .if3 .left) (omega arith) (putMid base (length (k .last .0) - base) (k .last .0) (v .last .0)) _ (c .before .before .compact .kept .0 ∙ same) (take-put base (length (k .last .0) - base) (k .last .0) (v .last .0) held) (c .before .before .compact .ensures),
+    )
 
 pub +level+step-spec : {M : Type 1} → statement M
 +level+step-spec = close μ-level μ-step (λ t. level-lts.spec (

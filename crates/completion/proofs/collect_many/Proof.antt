@@ -1,32 +1,18 @@
 use lib.ListN.{length-replicate}
-use Rattle.completion.specs.Code.{Collects, Collected, Appended, Roomy}
-use Rattle.completion.proofs.CodeBytes.{rows-fewer}
 use Rattle.completion.proofs.CodeOperation.{collect-roomy, collected, copied-fits, links-fit}
 use native.Mathlib.Omega.{arith}
-use borrow.Author.Tests.{le-ltb, lt-ltb, le-leb, lt-leb, eq-eqb, ne-eqb, ltb-true, ltb-false, leb-true, leb-false, eqb-true, eqb-false}
-use mathlib.Core.Path.{_≡_, refl, sym, ap, _∙_}
-use mathlib.Core.Logic.{⊎-elim}
-use mathlib.Core.List.{List, [], _∷_, _++_}
-use mathlib.Core.Bool.{Bool, true, false}
-use Prim.Native.Nat.{ℕ, zero, suc, _+_, _*_, _-_, _/_, _%_, _≤_, _<_}
-use lib.ListN.{length, take, drop, getD, set, replicate}
-use denote.Ref.{now}
+use mathlib.Core.Path.{_≡_}
+use Prim.Native.Nat.{ℕ, _*_, _≤_}
+use lib.ListN.{length, replicate}
 use borrow.Author.Needs.{needs}
 use Rattle.completion.proofs.collect_many.Statement.{statement}
 use Rattle.completion.proofs.collect_many.Tie as tie
-use Rattle.completion.proofs.collect_many.Reads as reads
-use Rattle.completion.proofs.collect_many.Lts as lts
-use Rattle.completion.proofs.copy_from.Reads as copy-from-reads
-use Rattle.completion.proofs.level.Reads as level-reads
-
 
 slice-aggregate-copy-from : tie.Need-slice-aggregate-copy-from
 slice-aggregate-copy-from c = search needs
 
-
 mul-copy-from : tie.Need-mul-copy-from
 mul-copy-from c = search needs
-
 
 copy-from-requires : tie.Need-copy-from-requires
 copy-from-requires c κs = let s = c .before .before .before in let a = s .args in let p = s .pre in
@@ -34,18 +20,14 @@ copy-from-requires c κs = let s = c .before .before .before in let a = s .args 
     let f = copied-fits p 86016 (omega (arith, p .limited)) in
     (omega arith, omega (arith, p .whole))
 
-
 slice-aggregate-level : tie.Need-slice-aggregate-level
 slice-aggregate-level c = search needs
-
 
 slice-aggregate-level-2 : tie.Need-slice-aggregate-level-2
 slice-aggregate-level-2 c = search needs
 
-
 sub-level : tie.Need-sub-level
 sub-level c = search needs
-
 
 level-requires : tie.Need-level-requires
 level-requires c κs = let s = c .before .before .before .before .before .before .before .before in let a = s .args in let p = s .pre in
@@ -55,10 +37,8 @@ level-requires c κs = let s = c .before .before .before .before .before .before
     let f = links-fit p 20480 (omega (arith, p .limited)) in
     (collect-roomy p (c .before .before .before .before .copy-from .last .0) (omega (arith, c .before .before .before .before .copy-from .kept .0)), omega arith)
 
-
 same-length : tie.Need-same-length
 same-length c = search needs
-
 
 returns : tie.Need-returns
 returns c = let s = c .before .before .before .before .before .before .before .before .before .before .before .before .before in let a = s .args in let p = s .pre in

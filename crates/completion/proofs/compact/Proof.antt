@@ -1,33 +1,20 @@
-use Rattle.terms.proofs.RowsLaws.{length-firstRows, firstRows-size}
-use Rattle.completion.proofs.SliceLaws.{at-size}
-use native.Mathlib.Numerals.{add-one}
 use mathlib.Core.List.{append-nil}
-use lib.Seq.{length-take-le}
-use Rattle.completion.proofs.CodeBytes.{times-large, times-suc, rows-before, rows-fewer}
+use Rattle.completion.proofs.CodeBytes.{times-large}
 use mathlib.Core.List.{map}
-use lib.Seq.{paste, take-paste, length-paste}
-use lib.ListN.{length-drop}
 use Rattle.terms.specs.Rows.{flat, firstRows}
 use Rattle.terms.proofs.RowsLaws.{row-fits}
-use Rattle.completion.specs.Slices.{slice, at, fit}
-use Rattle.completion.specs.Code.{part, copies}
-use Rattle.completion.proofs.CodeRows.{read-back, front-of, same-byte, length-copies, tails-stay, tails-more, tails-few, tails-written, compact-more, again-rows, repeat-more, copies-next, repeat-beyond}
-use Rattle.completion.proofs.BufferLaws.{flat-append, fit-within, fit-beyond}
+use Rattle.completion.specs.Slices.{at}
+use Rattle.completion.specs.Code.{part}
+use Rattle.completion.proofs.CodeRows.{compact-more}
 use borrow.Author.Needs.{needs}
 use native.Mathlib.Omega.{arith}
-use borrow.Author.Tests.{le-ltb, lt-ltb, le-leb, lt-leb, eq-eqb, ne-eqb, ltb-true, ltb-false, leb-true, leb-false, eqb-true, eqb-false}
-use mathlib.Core.Path.{_≡_, refl, sym, ap, _∙_}
-use mathlib.Core.Logic.{⊎-elim}
-use mathlib.Core.List.{List, [], _∷_, _++_}
-use mathlib.Core.Bool.{Bool, true, false}
-use Prim.Native.Nat.{ℕ, zero, suc, _+_, _*_, _-_, _/_, _%_, _≤_, _<_}
-use lib.ListN.{length, take, drop, getD, set, replicate}
+use mathlib.Core.Path.{_≡_, refl, sym, _∙_}
+use mathlib.Core.List.{_++_}
+use Prim.Native.Nat.{_+_, _*_, _-_, _≤_}
+use lib.ListN.{length, take, drop}
 use denote.Ref.{now}
 use Rattle.completion.proofs.compact.Statement.{statement}
 use Rattle.completion.proofs.compact.Tie as tie
-use Rattle.completion.proofs.compact.Reads as reads
-use Rattle.completion.proofs.compact.Lts as lts
-use Rattle.completion.proofs.copy_from.Reads as copy-from-reads
 
 abbrev Inv-loop : tie.InvT-loop
 Inv-loop bytes₀ to out n rest first count i₀ bytes i = (i ≤ count) × (length bytes ≡ length bytes₀) × (take (to + i * rest) bytes ≡ take to bytes₀ ++ flat (map (λ u. drop (n - rest) u) (part n i (first * n) out)))
@@ -35,13 +22,11 @@ Inv-loop bytes₀ to out n rest first count i₀ bytes i = (i ≤ count) × (len
 abbrev μ-loop : tie.MeasureT-loop
 μ-loop bytes₀ to out n rest first count i₀ bytes i = count - i
 
-
 loop-holds : tie.Need-loop-holds Inv-loop μ-loop
 unfolding firstRows flat
 loop-holds c = let a = c .before .before .args in
     let z : a .to + 0 * a .rest ≡ a .to = omega arith in
     (omega arith, refl, rw z (sym (append-nil _)))
-
 
 mul-copy-from : tie.Need-mul-copy-from Inv-loop μ-loop
 mul-copy-from c = let a = c .before .before .before .before .before .args in
@@ -49,13 +34,11 @@ mul-copy-from c = let a = c .before .before .before .before .before .args in
     let f = row-fits (l .i) (a .count) (a .rest) (a .count * a .rest) (omega arith) (omega arith) in
     omega arith
 
-
 add-copy-from : tie.Need-add-copy-from Inv-loop μ-loop
 add-copy-from c = let a = c .before .before .before .before .before .args in
     let l = c .before .before .loop in
     let f = row-fits (l .i) (a .count) (a .rest) (a .count * a .rest) (omega arith) (omega arith) in
     omega arith
-
 
 add-copy-from-2 : tie.Need-add-copy-from-2 Inv-loop μ-loop
 add-copy-from-2 c = let a = c .before .before .before .before .before .args in
@@ -64,24 +47,20 @@ add-copy-from-2 c = let a = c .before .before .before .before .before .args in
     let t = times-large (a .first + l .i) (a .n) (omega arith) in
     omega arith
 
-
 mul-copy-from-2 : tie.Need-mul-copy-from-2 Inv-loop μ-loop
 mul-copy-from-2 c = let a = c .before .before .before .before .before .args in
     let l = c .before .before .loop in
     let g = row-fits (a .first + l .i) (a .first + a .count) (a .n) (length (a .out .now)) (omega arith) (omega arith) in
     omega arith
 
-
 sub-copy-from : tie.Need-sub-copy-from Inv-loop μ-loop
 sub-copy-from c = search needs
-
 
 add-copy-from-3 : tie.Need-add-copy-from-3 Inv-loop μ-loop
 add-copy-from-3 c = let a = c .before .before .before .before .before .args in
     let l = c .before .before .loop in
     let g = row-fits (a .first + l .i) (a .first + a .count) (a .n) (length (a .out .now)) (omega arith) (omega arith) in
     omega arith
-
 
 copy-from-requires : tie.Need-copy-from-requires Inv-loop μ-loop
 copy-from-requires c κs = let a = c .before .before .before .before .before .args in
@@ -90,27 +69,24 @@ copy-from-requires c κs = let a = c .before .before .before .before .before .ar
     let g = row-fits (a .first + l .i) (a .first + a .count) (a .n) (length (a .out .now)) (omega arith) (omega arith) in
     (omega arith, omega arith)
 
-
 add-i : tie.Need-add-i Inv-loop μ-loop
 add-i c = search needs
 
-
 loop-less : tie.Need-loop-less Inv-loop μ-loop
 loop-less c = search needs
-
 
 loop-again : tie.Need-loop-again Inv-loop μ-loop
 loop-again c = let a = c .before .before .before .before .before .before .before .before .args in
     let l = c .before .before .before .before .before .loop in
     let f = row-fits (l .i) (a .count) (a .rest) (a .count * a .rest) (omega arith) (omega arith) in
-    let g = row-fits (a .first + l .i) (a .first + a .count) (a .n) (length (a .out .now)) (omega arith) (omega arith) in
-    (omega arith, c .before .before .copy-from .kept .0 ∙ l .inv .1,
-    compact-more (a .n) (a .rest) (a .first) (l .i) (a .to) (a .out .now) (l .bytes) (c .before .before .copy-from .last .0) (a .bytes .now) (omega arith) (omega arith) (omega arith) (l .inv .2) (c .before .before .copy-from .ensures))
-
+    let g = row-fits (a .first + l .i) (a .first + a .count) (a .n) (length (a .out .now)) (omega arith) (omega arith) in (
+      omega arith,
+      c .before .before .copy-from .kept .0 ∙ l .inv .1,
+      compact-more (a .n) (a .rest) (a .first) (l .i) (a .to) (a .out .now) (l .bytes) (c .before .before .copy-from .last .0) (a .bytes .now) (omega arith) (omega arith) (omega arith) (l .inv .2) (c .before .before .copy-from .ensures),
+    )
 
 same-length : tie.Need-same-length Inv-loop μ-loop
 same-length c = search needs
-
 
 returns : tie.Need-returns Inv-loop μ-loop
 returns c = let a = c .before .before .before .before .args in

@@ -1,76 +1,53 @@
-use Rattle.terms.specs.Refusals.{refusal, tableChecks}
-use Rattle.completion.specs.Code.{Collects, Collected}
 use Rattle.completion.proofs.OperationLaws.{room-fits}
 use lib.ListN.{length-replicate}
 use Rattle.completion.proofs.CodeBytes.{rows-fewer}
 use Rattle.completion.proofs.CodeOperation.{complete-early, passed, collect-asks, complete-full, complete-done}
 use native.Mathlib.Omega.{arith}
-use borrow.Author.Tests.{le-ltb, lt-ltb, le-leb, lt-leb, eq-eqb, ne-eqb, ltb-true, ltb-false, leb-true, leb-false, eqb-true, eqb-false}
-use mathlib.Core.Path.{_≡_, refl, sym, ap, _∙_}
-use mathlib.Core.Logic.{⊎-elim}
-use mathlib.Core.List.{List, [], _∷_, _++_}
-use mathlib.Core.Bool.{Bool, true, false}
-use Prim.Native.Nat.{ℕ, zero, suc, _+_, _*_, _-_, _/_, _%_, _≤_, _<_}
-use lib.ListN.{length, take, drop, getD, set, replicate}
+use Prim.Native.Nat.{ℕ}
+use lib.ListN.{length, replicate}
 use denote.Ref.{now}
 use borrow.Author.Needs.{needs}
 use Rattle.completion.proofs.complete.Statement.{statement}
 use Rattle.completion.proofs.complete.Tie as tie
-use Rattle.completion.proofs.complete.Reads as reads
-use Rattle.completion.proofs.complete.Lts as lts
-use Rattle.completion.proofs.collect.Reads as collect-reads
-use Rattle.completion.proofs.copy_from.Reads as copy-from-reads
-use Rattle.completion.proofs.room_for.Reads as room-for-reads
-use Rattle.terms.proofs.table_refusal.Reads as table-refusal-reads
-
 
 table-refusal-requires : tie.Need-table-refusal-requires
 table-refusal-requires c κs = search needs
 
-
 returns : tie.Need-returns
 returns c = let s = c .before .before .before .before in let a = s .args in
     complete-early (a .n) (a .table .now) (a .buffer .now) (c .before .table-refusal .result) (c .before .table-refusal .ensures) (c .if1 .taken)
-
 
 room-for-requires : tie.Need-room-for-requires
 room-for-requires c κs = let s = c .before .before .before .before in let a = s .args in
     let p = passed (a .n) (a .table .now) (a .buffer .now) (c .before .table-refusal .result) (c .before .table-refusal .ensures) (c .if1 .left) in
     p .some
 
-
 div-collect : tie.Need-div-collect
 div-collect c = let s = c .before .before .before .before .before in let a = s .args in
     let p = passed (a .n) (a .table .now) (a .buffer .now) (c .before .before .table-refusal .result) (c .before .before .table-refusal .ensures) (c .before .if1 .left) in
     p .some
 
-
 slice-aggregate-collect : tie.Need-slice-aggregate-collect
 slice-aggregate-collect c = search needs
-
 
 collect-requires : tie.Need-collect-requires
 collect-requires c κs = let s = c .before .before .before .before .before .before in let a = s .args in
     let p = passed (a .n) (a .table .now) (a .buffer .now) (c .before .before .before .table-refusal .result) (c .before .before .before .table-refusal .ensures) (c .before .before .if1 .left) in
     collect-asks (a .n) (a .table .now) (a .buffer .now) (c .before .before .before .table-refusal .result) (c .before .before .before .table-refusal .ensures) (c .before .before .if1 .left) (replicate {A = ℕ} 24576 0) (c .before .room-for .result) (length-replicate {A = ℕ} 24576 0) (c .before .room-for .ensures)
 
-
 returns-2 : tie.Need-returns-2
 returns-2 c = let s = c .before .before .before .before .before .before .before .before .before in let a = s .args in
     let p = passed (a .n) (a .table .now) (a .buffer .now) (c .before .before .before .before .before .before .table-refusal .result) (c .before .before .before .before .before .before .table-refusal .ensures) (c .before .before .before .before .before .if1 .left) in
     complete-full (a .n) (a .table .now) (a .buffer .now) (c .before .before .before .before .before .before .table-refusal .result) (c .before .before .before .before .before .before .table-refusal .ensures) (c .before .before .before .before .before .if1 .left) (c .before .before .before .before .room-for .result) (c .before .before .collect .result) _ (c .before .before .before .before .room-for .ensures) (c .before .before .collect .ensures) (c .if2 .taken)
 
-
 slice-aggregate-copy-from : tie.Need-slice-aggregate-copy-from
 slice-aggregate-copy-from c = search needs
-
 
 mul-copy-from : tie.Need-mul-copy-from
 mul-copy-from c = let s = c .before .before .before .before .before .before .before .before .before .before .before in let a = s .args in
     let p = passed (a .n) (a .table .now) (a .buffer .now) (c .before .before .before .before .before .before .before .before .table-refusal .result) (c .before .before .before .before .before .before .before .before .table-refusal .ensures) (c .before .before .before .before .before .before .before .if1 .left) in
     let f = room-fits (a .n) (length (a .buffer .now)) (c .before .before .before .before .collect .result) (omega (arith, c .before .before .before .before .before .before .room-for .ensures)) in
     omega arith
-
 
 copy-from-requires : tie.Need-copy-from-requires
 copy-from-requires c κs = let s = c .before .before .before .before .before .before .before .before .before .before .before in let a = s .args in
@@ -80,10 +57,8 @@ copy-from-requires c κs = let s = c .before .before .before .before .before .be
     let g = rows-fewer (c .before .before .before .before .collect .result) (c .before .before .before .before .before .before .room-for .result) (a .n) (c .before .before .if2 .left) in
     (omega arith, omega (arith, q .holds, length-replicate {A = ℕ} 24576 0))
 
-
 same-length : tie.Need-same-length
 same-length c = search needs
-
 
 returns-3 : tie.Need-returns-3
 returns-3 c = let s = c .before .before .before .before .before .before .before .before .before .before .before .before .before .before in let a = s .args in

@@ -1,21 +1,14 @@
-use Rattle.terms.specs.Ideal.{dividesTest, insideTest}
+use Rattle.terms.specs.Ideal.{insideTest}
 use Rattle.completion.specs.Code.{part}
 use Rattle.completion.proofs.CodeBytes.{times-pred, covered-stop, covered-on, covered-end}
 use borrow.Author.Needs.{needs}
 use native.Mathlib.Omega.{arith}
-use borrow.Author.Tests.{le-ltb, lt-ltb, le-leb, lt-leb, eq-eqb, ne-eqb, ltb-true, ltb-false, leb-true, leb-false, eqb-true, eqb-false}
-use mathlib.Core.Path.{_≡_, refl, sym, ap, _∙_}
-use mathlib.Core.Logic.{⊎-elim}
-use mathlib.Core.List.{List, [], _∷_, _++_}
-use mathlib.Core.Bool.{Bool, true, false}
-use Prim.Native.Nat.{ℕ, zero, suc, _+_, _*_, _-_, _/_, _%_, _≤_, _<_}
-use lib.ListN.{length, take, drop, getD, set, replicate}
+use mathlib.Core.Path.{_≡_, sym, _∙_}
+use Prim.Native.Nat.{_+_, _*_, _≤_}
+use lib.ListN.{length, take, drop}
 use denote.Ref.{now}
 use Rattle.completion.proofs.covered.Statement.{statement}
 use Rattle.completion.proofs.covered.Tie as tie
-use Rattle.completion.proofs.covered.Reads as reads
-use Rattle.completion.proofs.covered.Lts as lts
-use Rattle.completion.proofs.divides_at.Reads as divides-at-reads
 
 abbrev Inv-loop : tie.InvT-loop
 Inv-loop bytes from count m q place₀ left₀ place left = (place + left * m ≤ length bytes) × (insideTest (part m count from bytes) (take m (drop q bytes)) ≡ insideTest (part m left place bytes) (take m (drop q bytes)))
@@ -23,10 +16,8 @@ Inv-loop bytes from count m q place₀ left₀ place left = (place + left * m �
 abbrev μ-loop : tie.MeasureT-loop
 μ-loop bytes from count m q place₀ left₀ place left = left
 
-
 loop-holds : tie.Need-loop-holds Inv-loop μ-loop
 loop-holds c = search needs
-
 
 divides-at-requires : tie.Need-divides-at-requires Inv-loop μ-loop
 divides-at-requires c κs = let a = c .before .before .before .args in
@@ -34,31 +25,25 @@ divides-at-requires c κs = let a = c .before .before .before .args in
     let s = times-pred (l .left) (a .m) (omega arith) in
     (omega arith, omega arith)
 
-
 returns : tie.Need-returns Inv-loop μ-loop
 returns c = let a = c .before .before .before .before .before .args in
     let l = c .before .before .before .loop in
     sym (l .inv .1 ∙ covered-stop (a .m) (l .left) (l .place) (a .bytes .now) (take (a .m) (drop (a .q) (a .bytes .now))) (omega arith) (sym (c .before .divides-at .ensures) ∙ c .if1 .taken))
 
-
 add-place : tie.Need-add-place Inv-loop μ-loop
 add-place c = search needs
-
 
 sub-left : tie.Need-sub-left Inv-loop μ-loop
 sub-left c = search needs
 
-
 loop-less : tie.Need-loop-less Inv-loop μ-loop
 loop-less c = search needs
-
 
 loop-again : tie.Need-loop-again Inv-loop μ-loop
 loop-again c = let a = c .before .before .before .before .before .args in
     let l = c .before .before .before .loop in
     let s = times-pred (l .left) (a .m) (omega arith) in
     (omega arith, l .inv .1 ∙ covered-on (a .m) (l .left) (l .place) (a .bytes .now) (take (a .m) (drop (a .q) (a .bytes .now))) (omega arith) (sym (c .before .divides-at .ensures) ∙ c .if1 .left))
-
 
 returns-2 : tie.Need-returns-2 Inv-loop μ-loop
 returns-2 c = let a = c .before .before .before .args in

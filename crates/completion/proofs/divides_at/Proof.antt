@@ -2,18 +2,12 @@ use Rattle.terms.specs.Ideal.{dividesTest}
 use Rattle.completion.proofs.CodeBytes.{pairs, pairs-start, pairs-stop, pairs-on}
 use borrow.Author.Needs.{needs}
 use native.Mathlib.Omega.{arith}
-use borrow.Author.Tests.{le-ltb, lt-ltb, le-leb, lt-leb, eq-eqb, ne-eqb, ltb-true, ltb-false, leb-true, leb-false, eqb-true, eqb-false}
-use mathlib.Core.Path.{_≡_, refl, sym, ap, _∙_}
-use mathlib.Core.Logic.{⊎-elim}
-use mathlib.Core.List.{List, [], _∷_, _++_}
-use mathlib.Core.Bool.{Bool, true, false}
-use Prim.Native.Nat.{ℕ, zero, suc, _+_, _*_, _-_, _/_, _%_, _≤_, _<_}
-use lib.ListN.{length, take, drop, getD, set, replicate}
+use mathlib.Core.Path.{_≡_, sym, _∙_}
+use Prim.Native.Nat.{_≤_}
+use lib.ListN.{take, drop}
 use denote.Ref.{now}
 use Rattle.completion.proofs.divides_at.Statement.{statement}
 use Rattle.completion.proofs.divides_at.Tie as tie
-use Rattle.completion.proofs.divides_at.Reads as reads
-use Rattle.completion.proofs.divides_at.Lts as lts
 
 abbrev Inv-loop : tie.InvT-loop
 Inv-loop bytes i j m left₀ left = (left ≤ m) × (dividesTest (take m (drop i bytes)) (take m (drop j bytes)) ≡ pairs bytes i j m left)
@@ -21,46 +15,36 @@ Inv-loop bytes i j m left₀ left = (left ≤ m) × (dividesTest (take m (drop i
 abbrev μ-loop : tie.MeasureT-loop
 μ-loop bytes i j m left₀ left = left
 
-
 loop-holds : tie.Need-loop-holds Inv-loop μ-loop
 loop-holds c = let a = c .args in (omega arith, pairs-start (a .bytes .now) (a .i) (a .j) (a .m) (omega arith))
-
 
 sub-left : tie.Need-sub-left Inv-loop μ-loop
 sub-left c = search needs
 
-
 add-if1 : tie.Need-add-if1 Inv-loop μ-loop
 add-if1 c = search needs
-
 
 shared-slice-read-if1 : tie.Need-shared-slice-read-if1 Inv-loop μ-loop
 shared-slice-read-if1 c = search needs
 
-
 add-if1-2 : tie.Need-add-if1-2 Inv-loop μ-loop
 add-if1-2 c = search needs
 
-
 shared-slice-read-if1-2 : tie.Need-shared-slice-read-if1-2 Inv-loop μ-loop
 shared-slice-read-if1-2 c = search needs
-
 
 returns : tie.Need-returns Inv-loop μ-loop
 returns c = let a = c .before .before .before .before .before .args in
     let l = c .before .before .before .before .loop in
     sym (l .inv .1 ∙ pairs-stop (a .bytes .now) (a .i) (a .j) (a .m) (l .left) (omega arith) (omega arith) (c .if1 .taken))
 
-
 loop-less : tie.Need-loop-less Inv-loop μ-loop
 loop-less c = search needs
-
 
 loop-again : tie.Need-loop-again Inv-loop μ-loop
 loop-again c = let a = c .before .before .before .before .before .args in
     let l = c .before .before .before .before .loop in
     (omega arith, l .inv .1 ∙ pairs-on (a .bytes .now) (a .i) (a .j) (a .m) (l .left) (omega arith) (omega arith) (c .if1 .left))
-
 
 returns-2 : tie.Need-returns-2 Inv-loop μ-loop
 returns-2 c = let l = c .before .loop in

@@ -1,23 +1,15 @@
-use Rattle.terms.specs.Ideal.{insideTest}
 use Rattle.completion.specs.Slices.{fresh}
 use Rattle.completion.specs.Code.{part}
 use Rattle.completion.proofs.CodeBytes.{times-pred, grows-stop, grows-on, grows-end}
 use borrow.Author.Tests.{not-true, not-false}
 use borrow.Author.Needs.{needs}
 use native.Mathlib.Omega.{arith}
-use borrow.Author.Tests.{le-ltb, lt-ltb, le-leb, lt-leb, eq-eqb, ne-eqb, ltb-true, ltb-false, leb-true, leb-false, eqb-true, eqb-false}
-use mathlib.Core.Path.{_≡_, refl, sym, ap, _∙_}
-use mathlib.Core.Logic.{⊎-elim}
-use mathlib.Core.List.{List, [], _∷_, _++_}
-use mathlib.Core.Bool.{Bool, true, false}
-use Prim.Native.Nat.{ℕ, zero, suc, _+_, _*_, _-_, _/_, _%_, _≤_, _<_}
-use lib.ListN.{length, take, drop, getD, set, replicate}
+use mathlib.Core.Path.{_≡_, sym, _∙_}
+use Prim.Native.Nat.{_+_, _*_, _≤_}
+use lib.ListN.{length}
 use denote.Ref.{now}
 use Rattle.completion.proofs.grows.Statement.{statement}
 use Rattle.completion.proofs.grows.Tie as tie
-use Rattle.completion.proofs.grows.Reads as reads
-use Rattle.completion.proofs.grows.Lts as lts
-use Rattle.completion.proofs.covered.Reads as covered-reads
 
 abbrev Inv-loop : tie.InvT-loop
 Inv-loop bytes from count more m place₀ left₀ place left = (place + left * m ≤ length bytes) × (fresh (part m count from bytes) (part m more (from + count * m) bytes) ≡ fresh (part m count from bytes) (part m left place bytes))
@@ -25,18 +17,14 @@ Inv-loop bytes from count more m place₀ left₀ place left = (place + left * m
 abbrev μ-loop : tie.MeasureT-loop
 μ-loop bytes from count more m place₀ left₀ place left = left
 
-
 mul-place : tie.Need-mul-place Inv-loop μ-loop
 mul-place c = search needs
-
 
 add-place : tie.Need-add-place Inv-loop μ-loop
 add-place c = search needs
 
-
 loop-holds : tie.Need-loop-holds Inv-loop μ-loop
 loop-holds c = search needs
-
 
 covered-requires : tie.Need-covered-requires Inv-loop μ-loop
 covered-requires c κs = let a = c .before .before .before .args in
@@ -44,12 +32,10 @@ covered-requires c κs = let a = c .before .before .before .args in
     let s = times-pred (l .left) (a .m) (omega arith) in
     (omega arith, omega arith)
 
-
 returns : tie.Need-returns Inv-loop μ-loop
 returns c = let a = c .before .before .before .before .before .args in
     let l = c .before .before .before .loop in
     sym (l .inv .1 ∙ grows-stop (part (a .m) (a .count) (a .from) (a .bytes .now)) (a .m) (l .left) (l .place) (a .bytes .now) (omega arith) (sym (c .before .covered .ensures) ∙ not-true _ (c .if1 .taken)))
-
 
 add-place-2 : tie.Need-add-place-2 Inv-loop μ-loop
 add-place-2 c = let a = c .before .before .before .before .before .args in
@@ -57,21 +43,17 @@ add-place-2 c = let a = c .before .before .before .before .before .args in
     let s = times-pred (l .left) (a .m) (omega arith) in
     omega arith
 
-
 sub-left : tie.Need-sub-left Inv-loop μ-loop
 sub-left c = search needs
 
-
 loop-less : tie.Need-loop-less Inv-loop μ-loop
 loop-less c = search needs
-
 
 loop-again : tie.Need-loop-again Inv-loop μ-loop
 loop-again c = let a = c .before .before .before .before .before .args in
     let l = c .before .before .before .loop in
     let s = times-pred (l .left) (a .m) (omega arith) in
     (omega arith, l .inv .1 ∙ grows-on (part (a .m) (a .count) (a .from) (a .bytes .now)) (a .m) (l .left) (l .place) (a .bytes .now) (omega arith) (sym (c .before .covered .ensures) ∙ not-false _ (c .if1 .left)))
-
 
 returns-2 : tie.Need-returns-2 Inv-loop μ-loop
 returns-2 c = let a = c .before .before .before .args in

@@ -1,33 +1,20 @@
-use Rattle.terms.proofs.RowsLaws.{length-firstRows, firstRows-size}
-use Rattle.completion.proofs.SliceLaws.{at-size}
+use Rattle.terms.proofs.RowsLaws.{length-firstRows}
 use native.Mathlib.Numerals.{add-one}
 use mathlib.Core.List.{append-nil}
-use lib.Seq.{length-take-le}
-use mathlib.Core.List.{map}
-use lib.Seq.{paste, take-paste, length-paste}
-use lib.ListN.{length-drop}
-use Rattle.terms.specs.Rows.{flat, firstRows}
-use Rattle.terms.proofs.RowsLaws.{row-fits}
-use Rattle.completion.specs.Slices.{slice, at, fit}
+use Rattle.terms.specs.Rows.{flat}
 use Rattle.completion.specs.Code.{part, copies}
-use Rattle.completion.proofs.CodeRows.{read-back, front-of, same-byte, length-copies, tails-stay, tails-more, tails-few, tails-written, compact-more, again-rows, repeat-more, copies-next, repeat-beyond}
-use Rattle.completion.proofs.BufferLaws.{flat-append, fit-within, fit-beyond}
-use Rattle.completion.proofs.CodeBytes.{times-large, times-suc, rows-before, rows-fewer}
+use Rattle.completion.proofs.CodeRows.{repeat-more, copies-next, repeat-beyond}
+use Rattle.completion.proofs.BufferLaws.{fit-within}
+use Rattle.completion.proofs.CodeBytes.{rows-fewer}
 use borrow.Author.Needs.{needs}
 use native.Mathlib.Omega.{arith}
-use borrow.Author.Tests.{le-ltb, lt-ltb, le-leb, lt-leb, eq-eqb, ne-eqb, ltb-true, ltb-false, leb-true, leb-false, eqb-true, eqb-false}
-use mathlib.Core.Path.{_≡_, refl, sym, ap, _∙_}
-use mathlib.Core.Logic.{⊎-elim}
-use mathlib.Core.List.{List, [], _∷_, _++_}
-use mathlib.Core.Bool.{Bool, true, false}
-use Prim.Native.Nat.{ℕ, zero, suc, _+_, _*_, _-_, _/_, _%_, _≤_, _<_}
-use lib.ListN.{length, take, drop, getD, set, replicate}
+use mathlib.Core.Path.{_≡_, refl, sym, _∙_}
+use mathlib.Core.List.{_++_}
+use Prim.Native.Nat.{suc, _+_, _*_, _-_, _≤_}
+use lib.ListN.{length, take, drop}
 use denote.Ref.{now}
 use Rattle.completion.proofs.repeat.Statement.{statement}
 use Rattle.completion.proofs.repeat.Tie as tie
-use Rattle.completion.proofs.repeat.Reads as reads
-use Rattle.completion.proofs.repeat.Lts as lts
-use Rattle.completion.proofs.again.Reads as again-reads
 
 abbrev Inv-loop : tie.InvT-loop
 Inv-loop out₀ n k first stop last a room count end₀ e₀ out end e = (e₀ ≤ e) × (e - e₀ ≤ a - e₀) × (stop ≤ end) × (end ≤ room) × (length out ≡ length out₀) × (end ≡ stop + length (copies k e₀ (e - e₀) (part n count (first * n) out₀)))
@@ -36,14 +23,11 @@ Inv-loop out₀ n k first stop last a room count end₀ e₀ out end e = (e₀ �
 abbrev μ-loop : tie.MeasureT-loop
 μ-loop out₀ n k first stop last a room count end₀ e₀ out end e = a - e
 
-
 sub-count : tie.Need-sub-count Inv-loop μ-loop
 sub-count c = search needs
 
-
 add-e : tie.Need-add-e Inv-loop μ-loop
 add-e c = search needs
-
 
 loop-holds : tie.Need-loop-holds Inv-loop μ-loop
 unfolding copies flat
@@ -51,30 +35,25 @@ loop-holds c = let a = c .before .args in
     let z : a .last + 1 - (a .last + 1) ≡ 0 = omega arith in
     (omega arith, omega arith, omega arith, omega arith, refl, rw z (omega arith), rw z (sym (append-nil _)))
 
-
 add-if1 : tie.Need-add-if1 Inv-loop μ-loop
 add-if1 c = search needs
-
 
 add-result : tie.Need-add-result Inv-loop μ-loop
 add-result c = search needs
 
-
 same-length : tie.Need-same-length Inv-loop μ-loop
 same-length c = search needs
-
 
 returns : tie.Need-returns Inv-loop μ-loop
 returns c = let a = c .before .before .before .before .args in
     let l = c .before .before .loop in
-    let S = part (a .n) (a .stop - a .first) (a .first * a .n) (a .out .now) in
-    (rw (← add-one (a .last)) (repeat-beyond (a .k) (a .last + 1) (a .a) (l .e) (a .stop) (a .stop - a .first) (l .end) (a .room) S (omega arith) (omega arith) (length-firstRows (a .n) (a .stop - a .first) _) (l .inv .5) (omega arith)),
-    λ h. absurd (omega arith))
-
+    let S = part (a .n) (a .stop - a .first) (a .first * a .n) (a .out .now) in (
+      rw (← add-one (a .last)) (repeat-beyond (a .k) (a .last + 1) (a .a) (l .e) (a .stop) (a .stop - a .first) (l .end) (a .room) S (omega arith) (omega arith) (length-firstRows (a .n) (a .stop - a .first) _) (l .inv .5) (omega arith)),
+      λ h. absurd (omega arith),
+    )
 
 cast-again : tie.Need-cast-again Inv-loop μ-loop
 cast-again c = search needs
-
 
 again-requires : tie.Need-again-requires Inv-loop μ-loop
 again-requires c κs = let a = c .before .before .before .before .before .args in
@@ -82,18 +61,14 @@ again-requires c κs = let a = c .before .before .before .before .before .args i
     let f = rows-fewer (l .end + (a .stop - a .first)) (a .room) (a .n) (omega arith) in
     (omega arith, omega arith, omega arith)
 
-
 add-end : tie.Need-add-end Inv-loop μ-loop
 add-end c = search needs
-
 
 add-e-2 : tie.Need-add-e-2 Inv-loop μ-loop
 add-e-2 c = search needs
 
-
 loop-less : tie.Need-loop-less Inv-loop μ-loop
 loop-less c = search needs
-
 
 loop-again : tie.Need-loop-again Inv-loop μ-loop
 loop-again c = let a = c .before .before .before .before .before .before .before .before .args in
@@ -101,15 +76,18 @@ loop-again c = let a = c .before .before .before .before .before .before .before
     let count = a .stop - a .first in
     let S = part (a .n) count (a .first * a .n) (a .out .now) in
     let f = rows-fewer (l .end) (a .room) (a .n) (omega arith) in
-    let g = rows-fewer (a .stop) (a .room) (a .n) (omega arith) in
-    (omega arith, omega arith, omega arith, omega arith, c .before .before .again .kept .0 ∙ l .inv .4,
-    omega (arith, copies-next (a .k) (a .last + 1) (l .e) count S (omega arith) (length-firstRows (a .n) count (drop (a .first * a .n) (a .out .now)))),
-    repeat-more (a .n) (a .k) (a .first) count (a .stop) (a .last + 1) (l .e) (l .end) (l .out) (c .before .before .again .last .0) (a .out .now) (omega arith) (omega arith) (omega arith) (omega arith) (omega arith) (l .inv .6) (c .before .before .again .ensures))
-
+    let g = rows-fewer (a .stop) (a .room) (a .n) (omega arith) in (
+      omega arith,
+      omega arith,
+      omega arith,
+      omega arith,
+      c .before .before .again .kept .0 ∙ l .inv .4,
+      omega (arith, copies-next (a .k) (a .last + 1) (l .e) count S (omega arith) (length-firstRows (a .n) count (drop (a .first * a .n) (a .out .now)))),
+      repeat-more (a .n) (a .k) (a .first) count (a .stop) (a .last + 1) (l .e) (l .end) (l .out) (c .before .before .again .last .0) (a .out .now) (omega arith) (omega arith) (omega arith) (omega arith) (omega arith) (l .inv .6) (c .before .before .again .ensures),
+    )
 
 same-length-2 : tie.Need-same-length-2 Inv-loop μ-loop
 same-length-2 c = search needs
-
 
 returns-2 : tie.Need-returns-2 Inv-loop μ-loop
 returns-2 c = let a = c .before .before .before .args in

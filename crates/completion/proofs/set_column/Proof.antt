@@ -1,23 +1,14 @@
-use mathlib.Core.List.{map}
-use Rattle.terms.specs.Rows.{flat}
 use Rattle.terms.proofs.RowsLaws.{row-fits}
-use Rattle.completion.specs.Code.{part}
-use Rattle.completion.proofs.CodeRows.{columned, columned-front, columned-length, columned-start, columned-take, column-more}
+use Rattle.completion.proofs.CodeRows.{columned, columned-length, columned-start, columned-take, column-more}
 use Rattle.completion.proofs.CodeBytes.{times-large}
 use borrow.Author.Needs.{needs}
 use native.Mathlib.Omega.{arith}
-use borrow.Author.Tests.{le-ltb, lt-ltb, le-leb, lt-leb, eq-eqb, ne-eqb, ltb-true, ltb-false, leb-true, leb-false, eqb-true, eqb-false}
-use mathlib.Core.Path.{_≡_, refl, sym, ap, _∙_}
-use mathlib.Core.Logic.{⊎-elim}
-use mathlib.Core.List.{List, [], _∷_, _++_}
-use mathlib.Core.Bool.{Bool, true, false}
-use Prim.Native.Nat.{ℕ, zero, suc, _+_, _*_, _-_, _/_, _%_, _≤_, _<_}
-use lib.ListN.{length, take, drop, getD, set, replicate}
+use mathlib.Core.Path.{_≡_}
+use Prim.Native.Nat.{_+_, _*_, _-_, _≤_}
+use lib.ListN.{length}
 use denote.Ref.{now}
 use Rattle.completion.proofs.set_column.Statement.{statement}
 use Rattle.completion.proofs.set_column.Tie as tie
-use Rattle.completion.proofs.set_column.Reads as reads
-use Rattle.completion.proofs.set_column.Lts as lts
 
 abbrev Inv-loop : tie.InvT-loop
 Inv-loop out₀ n k first count e i₀ out i = (i ≤ count) × (out ≡ columned out₀ n k first e i)
@@ -25,10 +16,8 @@ Inv-loop out₀ n k first count e i₀ out i = (i ≤ count) × (out ≡ columne
 abbrev μ-loop : tie.MeasureT-loop
 μ-loop out₀ n k first count e i₀ out i = count - i
 
-
 loop-holds : tie.Need-loop-holds Inv-loop μ-loop
 loop-holds c = let a = c .args in (omega arith, columned-start (a .out .now) (a .n) (a .k) (a .first) (a .e))
-
 
 add-out : tie.Need-add-out Inv-loop μ-loop
 add-out c = let a = c .before .before .args in
@@ -36,18 +25,15 @@ add-out c = let a = c .before .before .args in
     let g = times-large (a .first + c .before .loop .i) (a .n) (omega arith) in
     omega arith
 
-
 mul-out : tie.Need-mul-out Inv-loop μ-loop
 mul-out c = let a = c .before .before .args in
     let f = row-fits (a .first + c .before .loop .i) (a .first + a .count) (a .n) (length (a .out .now)) (omega arith) (omega arith) in
     omega arith
 
-
 add-out-2 : tie.Need-add-out-2 Inv-loop μ-loop
 add-out-2 c = let a = c .before .before .args in
     let f = row-fits (a .first + c .before .loop .i) (a .first + a .count) (a .n) (length (a .out .now)) (omega arith) (omega arith) in
     omega arith
-
 
 slice-write-out : tie.Need-slice-write-out Inv-loop μ-loop
 slice-write-out c = let a = c .before .before .args in
@@ -55,14 +41,11 @@ slice-write-out c = let a = c .before .before .args in
     let f = row-fits (a .first + l .i) (a .first + a .count) (a .n) (length (a .out .now)) (omega arith) (omega arith) in
     rw (l .inv .1, columned-length (a .out .now) (a .n) (a .k) (a .first) (a .e) (l .i) (omega arith)) (omega arith)
 
-
 add-i : tie.Need-add-i Inv-loop μ-loop
 add-i c = search needs
 
-
 loop-less : tie.Need-loop-less Inv-loop μ-loop
 loop-less c = search needs
-
 
 loop-again : tie.Need-loop-again Inv-loop μ-loop
 loop-again c = let a = c .before .before .args in
@@ -70,14 +53,12 @@ loop-again c = let a = c .before .before .args in
     let f = row-fits (a .first + l .i) (a .first + a .count) (a .n) (length (a .out .now)) (omega arith) (omega arith) in
     (omega arith, column-more (a .out .now) (a .n) (a .k) (a .first) (a .e) (l .out) (l .i) (omega arith) (omega arith) (l .inv .1))
 
-
 same-length : tie.Need-same-length Inv-loop μ-loop
 same-length c = let a = c .before .before .args in
     let l = c .before .loop in
     let e : l .i ≡ a .count = omega arith in
     let g : (a .first + l .i) * a .n ≤ length (a .out .now) = rw e (omega arith) in
     rw (l .inv .1, columned-length (a .out .now) (a .n) (a .k) (a .first) (a .e) (l .i) g)
-
 
 returns : tie.Need-returns Inv-loop μ-loop
 returns c = let a = c .before .before .args in

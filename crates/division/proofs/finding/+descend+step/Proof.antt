@@ -9,7 +9,6 @@ use Prim.Native.Nat.{suc, _+_, _*_, _-_, ℕ, _<_}
 use denote.Ref.{now}
 use borrow.Fn.Kinds.{In}
 use borrow.Fn.PlainCycle.{Measures, is, falls, and}
-use Rattle.terms.specs.Rows.{rows}
 use Rattle.division.specs.Ranges.{descended}
 use Rattle.division.proofs.SteppingLaws.{read-at, reached-end, reached-none, reached-above, reached-shared, reached-next, reached-gap, reached-down}
 use Rattle.division.proofs.finding.descend.Reads as descend

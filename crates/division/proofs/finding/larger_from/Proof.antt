@@ -1,6 +1,5 @@
 -- Two neighbouring rows that are a bracket of the range: since its exponents ascend, the second is the first later row with a larger exponent.
 use borrow.Author.Needs.{needs}
-use Rattle.terms.specs.Rows.{rows}
 use Rattle.division.proofs.SteppingLaws.{between-within, larger-found}
 use Rattle.division.proofs.finding.larger_from.Statement.{statement}
 use Rattle.division.proofs.finding.larger_from.Tie as tie

@@ -2,7 +2,7 @@
 use borrow.Author.Needs.{needs}
 use native.Mathlib.Omega.{arith}
 use mathlib.Core.Path.{sym, ap, _∙_, subst}
-use Prim.Native.Nat.{ℕ, _-_}
+use Prim.Native.Nat.{ℕ}
 use denote.Ref.{now}
 use Rattle.division.specs.Inside.{InsidePromise}
 use Rattle.division.specs.declared.inside.InsideAnswer.the-variants.{Refused}

@@ -1,7 +1,6 @@
 -- Each return gives the first check that refuses.
 use native.Mathlib.Omega.{arith}
 use mathlib.Core.Path.{sym, _∙_}
-use Prim.Native.Nat.{_-_}
 use denote.Ref.{now}
 use borrow.Author.Needs.{needs}
 use Rattle.division.proofs.InsideLaws.{refuses-table, refuses-length, refuses-none}

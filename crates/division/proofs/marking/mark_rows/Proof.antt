@@ -1,6 +1,5 @@
 -- Rows that ascend are marked by their successors, others are listed in order first.
 use mathlib.Core.Path.{sym, _∙_}
-use Prim.Native.Nat.{_-_}
 use denote.Ref.{now}
 use borrow.Author.Needs.{needs}
 use Rattle.terms.specs.Rows.{rows}

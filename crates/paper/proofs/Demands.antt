@@ -1,7 +1,7 @@
 -- The three demands hold.
 --
 --   settled       a number that is the refusal of a list of checks settles the list
---   demand-one, demand-two, demand-three
+--   demand-one, demand-two, demand-three, listing-demand
 use mathlib.Core.Path.{_≡_, refl, sym, ap, _∙_, subst}
 use mathlib.Core.List.{List, [], _∷_, _++_, List·Memᴰ·head, List·Memᴰ·tail, Memᴰ·append-left}
 use mathlib.Core.Logic.{by-cases, _↔_}
@@ -47,7 +47,8 @@ use Rattle.division.proofs.MarksLaws.{tests-marks, tableMarks-at, length-tableM
 use Rattle.division.proofs.MarkingLaws.{marks-unique, marks-accepts, marks-refuses}
 use lib.ListN.{getD, List·getD-append}
 use lib.Seq.{drop-at}
-use Rattle.paper.specs.Demands.{Settled, DemandOne, DemandTwo, DemandThree, Completion, Marking, OneDivisor}
+use Rattle.listing.proofs.PartLaws.{part-front, bundle-parts}
+use Rattle.paper.specs.Demands.{Settled, DemandOne, DemandTwo, DemandThree, ListingDemand, Completion, Marking, OneDivisor}
 use Rattle.paper.proofs.EndToEnd.{count-ideal, flat-accepted, completed-below, rows-below}
 
 -- ---- the first demand
@@ -213,3 +214,6 @@ demand-three = record {
       count-answers n table buffer (completeRows answer) after q s l counting
       (subst (λ (t : List ℕ). CountPromise n t s counting) (written n table buffer (completeRows answer) after q) c);
 }
+
+pub listing-demand : ListingDemand
+listing-demand = record { part = λ bundle j before size after p. part-front p; whole = bundle-parts }

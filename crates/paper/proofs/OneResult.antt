@@ -14,6 +14,7 @@ use Rattle.counting.specs.Operations.{countNumber, countValue, polynomialNumber
 use Rattle.counting.proofs.OperationLaws.{count-unique, polynomial-unique, steady-unique}
 use Rattle.bundle.specs.declared.Located.{Located}
 use Rattle.bundle.proofs.ReadLaws.{locate-unique, open-unique}
+use Rattle.listing.proofs.PartLaws.{part-unique}
 use Rattle.interface.specs.Exports.{insideOut, rowOut}
 use Rattle.paper.specs.OneResult.{OneResult, OneExport}
 
@@ -28,6 +29,7 @@ one-result = record {
   steady = steady-unique;
   locate = locate-unique;
   opened = open-unique;
+  part = λ bundle j before r s x y p q. part-unique p q;
 }
 
 -- two numbers out of one answer

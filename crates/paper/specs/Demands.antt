@@ -8,6 +8,8 @@
 --   DemandThree   among the completed rows a monomial of the ideal has exactly one Janet divisor, and any other none; the descent finds
 --                 what a scan finds within degree plus n steps; the count from the completed rows is the number of monomials outside
 --
+--   ListingDemand what `janet` writes: each part that the library makes is the text of that part, and the parts are the whole listing
+--
 -- The contract of each operation is the promise of that name; every function is proved to keep it.
 use mathlib.Core.Path.{_≡_}
 use mathlib.Core.List.{List}
@@ -32,6 +34,8 @@ use Rattle.counting.specs.Counts.{countAt}
 use Rattle.counting.specs.Operations.{CountPromise, PolynomialPromise, SteadyPromise, countChecks, steadyChecks, countNumber, countValue, polynomialNumber, steadyNumber}
 use Rattle.bundle.specs.Checks.{openChecks}
 use Rattle.bundle.specs.Operation.{LocatePromise}
+use Rattle.listing.specs.Operation.{PartPromise}
+use Rattle.listing.specs.Text.{partText, partsText, bundleText}
 use Rattle.completion.specs.declared.CompleteAnswer.{CompleteAnswer}
 use Rattle.division.specs.declared.finding.FindAnswer.{FindAnswer}
 use Rattle.counting.specs.declared.CountAnswer.{CountAnswer}
@@ -96,3 +100,7 @@ pub record DemandThree : Type 1 where
   pub count : (n : ℕ) (table buffer : List ℕ) (completed : CompleteAnswer) (after : List ℕ) → CompletePromise n table buffer completed after
       → completeNumber completed ≡ 0 → (s : ℕ) → s ≤ 300 → (answer : CountAnswer) → CountPromise n (take (completeRows completed * n) after) s answer
       → (countNumber answer ≡ 0) × (countValue answer ≡ countAt n (rows n table) s)
+
+pub record ListingDemand : Type 0 where
+  pub part : (bundle : List ℕ) (j : ℕ) (before : List ℕ) (size : ℕ) (after : List ℕ) → PartPromise bundle j before size after → take size after ≡ partText bundle j
+  pub whole : (bundle : List ℕ) → bundleText bundle ≡ partsText bundle 0 16

@@ -22,6 +22,7 @@ use Rattle.counting.specs.declared.SteadyAnswer.{SteadyAnswer}
 use Rattle.bundle.specs.Operation.{LocatePromise, OpenPromise, SameOpened}
 use Rattle.bundle.specs.declared.Located.{Located}
 use Rattle.bundle.specs.declared.OpenedTable.{OpenedTable}
+use Rattle.listing.specs.Operation.{PartPromise}
 use Rattle.interface.specs.Exports.{MarksExport, InsideExport, CompleteExport, FindExport, CountExport, PolynomialExport, SteadyExport, OpenExport}
 
 pub record OneResult : Type 0 where
@@ -34,6 +35,7 @@ pub record OneResult : Type 0 where
   pub steady : (n : ℕ) (table : List ℕ) (a b : SteadyAnswer) → SteadyPromise n table a → SteadyPromise n table b → a ≡ b
   pub locate : (bundle : List ℕ) (j : ℕ) (a b : Located) → LocatePromise bundle j a → LocatePromise bundle j b → a ≡ b
   pub opened : (bundle : RefT (List ℕ)) (j : ℕ) (a b : OpenedTable) → OpenPromise bundle j a → OpenPromise bundle j b → SameOpened a b
+  pub part : (bundle : List ℕ) (j : ℕ) (before : List ℕ) (r s : ℕ) (x y : List ℕ) → PartPromise bundle j before r x → PartPromise bundle j before s y → (r ≡ s) × (x ≡ y)
 
 pub record OneExport : Type 0 where
   pub marks : (n : ℕ) (table buffer : List ℕ) (m k : ℕ) (x y : List ℕ) → MarksExport n table buffer m x → MarksExport n table buffer k y → (m ≡ k) × (x ≡ y)

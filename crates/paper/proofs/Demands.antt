@@ -49,7 +49,7 @@ use lib.ListN.{getD, List·getD-append}
 use lib.Seq.{drop-at}
 use Rattle.listing.proofs.PartLaws.{part-front, bundle-parts}
 use Rattle.paper.specs.Demands.{Settled, DemandOne, DemandTwo, DemandThree, ListingDemand, Completion, Marking, OneDivisor}
-use Rattle.paper.proofs.EndToEnd.{count-ideal, flat-accepted, completed-below, rows-below}
+use Rattle.paper.proofs.EndToEnd.{count-ideal, flat-accepted, completed-entries}
 
 -- ---- the first demand
 
@@ -170,14 +170,17 @@ module _ (n : ℕ) (table buffer : List ℕ) (k : ℕ) (after : List ℕ) (p : C
       let u = complete-unique p (complete-accepts n table buffer (sym (p .number))) in
       rw (complete-count p, u .1) (take-at (flat H) (drop (length H * n) buffer) (length H * n) (length-flat n H (completion-size is)))
 
+  passed : Accepts (tableChecks n table)
+  passed c m = accepted (completeChecks n table (length buffer)) (sym (p .number)) c (Memᴰ·append-left _ m)
+
   given : TableAccepted n table
-  given = table-accepted n table (λ c m. accepted (completeChecks n table (length buffer)) (sym (p .number)) c (Memᴰ·append-left _ m))
+  given = table-accepted n table passed
 
   -- they pass every check of count
   counted : (s : ℕ) → s ≤ 300 → Accepts (countChecks n (flat H) s)
   counted s l = accepts-append (tableChecks n (flat H))
       (flat-accepted n H (given .some) (given .few) (completion-size is) (le-trans (accepted-room n table (length buffer) (sym (p .number))) (room-limited n (length buffer)))
-      (λ u m i. completed-below n (rows n table) i 50 (λ v w. rows-below n table 50 (given .small) v w i) u (is .only u m)))
+      (completed-entries n table passed))
       (accepts-cons (check 5 (lit< tt) (tests-lt 300 s)) _ (λ h. omega (arith, h))
       (accepts-cons (check 6 (lit< tt) (tests-notAscending n (flat H))) _ (λ h. h (subst Ascending same (is .ascends)))
       (accepts-cons (check 7 (lit< tt) (tests-notComplete n (flat H))) _ (λ h. h (subst (Complete n) same (completion-complete n (rows n table) (rows-size n table) is))) accepts-nil)))

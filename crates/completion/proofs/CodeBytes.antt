@@ -1,14 +1,14 @@
--- Rows in arrays of bytes: what the loops of the code read and write.
+-- Bytes in arrays: what the loops of the code read and write, one turn each.
 --
---   copied-more          a copy within one array goes on by one byte
+--   times-pred, times-less, times-large, rows-before, rows-fewer   products of a number of rows with their size
+--   copied-more, copied-from-more   a copy within one array, or from another, goes on by one byte
 --   pairs-start, pairs-stop, pairs-on   the test of divisibility, exponent by exponent from the last
---   part-cons, part-snoc, part-add      rows from a place on: the first and the others, the last and the others, two parts
---   covered-stop, covered-on, grows-stop, grows-on   the tests over the rows that are left
---   front-rows, same-rows   the rows at the front are those of the bytes at the front
---   read-back            rows that were written are read again
---   column-more          exponent k of one more row is set
+--   part-cons              rows from a place on: the first and the others
+--   covered-stop, -on, -end, grows-stop, -on, -end   the tests over the rows that are left
+--   head-byte, heads-start, heads-more, heads-same   the head of a row is its first byte; the largest head, row by row from the last
+--   least-start, least-more   the least byte so far
 use mathlib.Core.Path.{_≡_, refl, sym, ap, _∙_, subst}
-use mathlib.Core.Bool.{Bool, true, false}
+use mathlib.Core.Bool.{Bool, true, false, not}
 use mathlib.Core.List.{List, [], _∷_, _++_}
 use mathlib.Core.Logic.{by-cases}
 use native.Mathlib.Decide.{decLt}
@@ -30,15 +30,9 @@ use Rattle.completion.specs.Code.{part}
 
 -- ---- numbers
 
-pub times-suc : (k n : ℕ) → suc k * n ≡ k * n + n
-times-suc k n = omega arith
-
 pub times-pred : (k n : ℕ) → 0 < k → (k - 1) * n + n ≡ k * n
 times-pred zero n h = absurd (omega arith)
 times-pred (suc k) n h = let e : suc k - 1 ≡ k = omega arith in rw e (omega arith)
-
-pub pred-suc : (k : ℕ) → 0 < k → suc (k - 1) ≡ k
-pred-suc k h = omega arith
 
 pub times-large : (x n : ℕ) → 0 < n → x ≤ x * n
 times-large x zero h = absurd (not-suc-le-zero h)

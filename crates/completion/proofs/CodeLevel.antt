@@ -1,6 +1,9 @@
--- One level of the recursion: what `last_variable`, `step` and `level` have written.
+-- One level of the recursion: what `last_variable` and `level` have written, and that all fits.
 --
 --   last-none, last-full, last-one   one variable: no rows, no room, the least exponent
+--   level-start, level-full, level-done   a level before its first head, without room, past its last head
+--   table-wide, tails-wide, roomy-as, next-roomy   room for the table, for its tails, with other contents, for the next level
+--   appended-above, lent-all, lent-length, walk-last   small facts of ends, of a lent part, of the last growing head
 use mathlib.Core.Path.{_≡_, refl, sym, ap, _∙_}
 use mathlib.Core.Bool.{Bool, true, false}
 use mathlib.Core.List.{List, [], _∷_, _++_, append-nil}
@@ -14,7 +17,7 @@ use Rattle.terms.specs.Monomials.{Monomial, Table, _!_, OfSize, rowAt}
 use Rattle.terms.specs.Rows.{firstRows, flat}
 use Rattle.terms.proofs.RowsLaws.{length-firstRows, firstRows-size, member-at, member-index}
 use Rattle.completion.specs.Slices.{at, heads, fresh, Walk, walk, slices, after}
-use Rattle.completion.specs.Code.{space, Appended, Standing, Stepped, Roomy}
+use Rattle.completion.specs.Code.{part, space, Appended, Standing, Stepped, Roomy}
 use Rattle.completion.specs.declared.Progress.{Progress}
 use Rattle.completion.proofs.WalkLaws.{slices-none, slices-one, slices-walk, walk-stays, walk-grows}
 use Rattle.completion.proofs.BufferLaws.{fit-within, fit-beyond, beyond-fit, within-fit, walk-fit}
@@ -77,61 +80,6 @@ module _ (n rows : ℕ) (head work out : List ℕ) (room at : ℕ) where
           kept = refl;
         }
 
--- ---- a level: before the first head, and past the last
-
-module _ (n rest rows : ℕ) (head work out : List ℕ) (room start : ℕ) (h : Roomy n rest rows work out room start) where
-  abbrev T : Table
-  T = firstRows (suc rest) rows work
-
-  -- the table lies at the front of work
-  pub level-wide : rows * suc rest ≤ length work
-  unfolding space
-  level-wide =
-      let e : rows * (suc rest + space rest) ≡ rows * suc rest + rows * space rest = mul-add rows (suc rest) (space rest) in
-      omega (arith, h .wide)
-
-  size : OfSize (suc rest) T
-  size = firstRows-size (suc rest) rows work level-wide
-
-  pub level-start : Standing T start (take (start * n) out) n rest rows head room 0 work out (record { from = start; end = start; last = 0; generators = 0 })
-  unfolding walk firstRows flat after
-  level-start =
-      let f : start * n ≤ room * n = rows-fewer start room n (h .starts) in
-      let z : start + 0 ≡ start = omega arith in
-      record {
-        table = refl;
-        last = refl;
-        generators = refl;
-        block = z;
-        before = length-take-le (start * n) out (omega (arith, h .holds));
-        end = sym z;
-        within = h .starts;
-        written = sym (append-nil (take (start * n) out));
-      }
-
-  -- no room for what a head adds: none for the whole
-  pub level-full : (a : ℕ) (now new after : List ℕ) (r : Progress) → take (rows * suc rest) now ≡ take (rows * suc rest) work → Stepped T start (take (start * n) out) n rest rows head room a now r new after →
-      room < r .end → Appended n rest rows head work out room start (r .end) new after
-  level-full a now new after r k s g =
-      let W : Table = walk (λ H. slices rest H) T (suc a) .written in
-      let b : room < start + length W = beyond-fit room (start + length W) (rw (s .end) at g) in
-      record {
-        end = s .end ∙ fit-beyond room (start + length W) b ∙ sym (walk-fit rest T size room start (suc a) b);
-        written = λ l. absurd (omega arith);
-        kept = s .kept ∙ k;
-      }
-
-  pub level-done : (a : ℕ) (now after : List ℕ) (w : Progress) → a ≡ heads T → take (rows * suc rest) now ≡ take (rows * suc rest) work → Standing T start (take (start * n) out) n rest rows head room a now after w →
-      Appended n rest rows head work out room start (w .end) now after
-  level-done a now after w e k s =
-      let all : walk (λ H. slices rest H) T a .written ≡ slices (suc rest) T = ap (λ (x : ℕ). walk (λ H. slices rest H) T x .written) e ∙ sym (slices-walk rest T) in
-      let f : w .end ≡ start + length (slices (suc rest) T) = s .end ∙ ap (λ (H : Table). start + length H) all in
-      record {
-        end = f ∙ sym (fit-within room (start + length (slices (suc rest) T)) (omega (arith, s .within)));
-        written = λ l. s .written ∙ ap (λ (H : Table). take (start * n) out ++ flat (Rattle.completion.specs.Slices.after (take (n - suc rest) head) H)) all;
-        kept = k;
-      }
-
 -- ---- room for a level, and for the next
 
 space-above : (m : ℕ) → m ≤ space m
@@ -179,6 +127,56 @@ module _ {n rest rows : ℕ} {work out : List ℕ} {room x : ℕ} (h : Roomy n r
         most = h .most;
         starts = g;
       }
+
+-- ---- a level: before the first head, and past the last
+
+module _ (n rest rows : ℕ) (head work out : List ℕ) (room start : ℕ) (h : Roomy n rest rows work out room start) where
+  abbrev T : Table
+  T = firstRows (suc rest) rows work
+
+  size : OfSize (suc rest) T
+  size = firstRows-size (suc rest) rows work (table-wide h)
+
+  pub level-start : Standing T start (take (start * n) out) n rest rows head room 0 work out (record { from = start; end = start; last = 0; generators = 0 })
+  unfolding walk firstRows flat after
+  level-start =
+      let f : start * n ≤ room * n = rows-fewer start room n (h .starts) in
+      let z : start + 0 ≡ start = omega arith in
+      record {
+        table = refl;
+        last = refl;
+        generators = refl;
+        block = z;
+        before = length-take-le (start * n) out (omega (arith, h .holds));
+        end = sym z;
+        within = h .starts;
+        written = sym (append-nil (take (start * n) out));
+      }
+
+  -- no room for what a head adds: none for the whole
+  pub level-full : (a : ℕ) (now new after : List ℕ) (r : Progress) → take (rows * suc rest) now ≡ take (rows * suc rest) work → Stepped T start (take (start * n) out) n rest rows head room a now r new after →
+      room < r .end → Appended n rest rows head work out room start (r .end) new after
+  level-full a now new after r k s g =
+      let W : Table = walk (λ H. slices rest H) T (suc a) .written in
+      let b : room < start + length W = beyond-fit room (start + length W) (rw (s .end) at g) in
+      record {
+        end = s .end ∙ fit-beyond room (start + length W) b ∙ sym (walk-fit rest T size room start (suc a) b);
+        written = λ l. absurd (omega arith);
+        kept = s .kept ∙ k;
+      }
+
+  pub level-done : (a : ℕ) (now after : List ℕ) (w : Progress) → a ≡ heads T → take (rows * suc rest) now ≡ take (rows * suc rest) work → Standing T start (take (start * n) out) n rest rows head room a now after w →
+      Appended n rest rows head work out room start (w .end) now after
+  level-done a now after w e k s =
+      let all : walk (λ H. slices rest H) T a .written ≡ slices (suc rest) T = ap (λ (x : ℕ). walk (λ H. slices rest H) T x .written) e ∙ sym (slices-walk rest T) in
+      let f : w .end ≡ start + length (slices (suc rest) T) = s .end ∙ ap (λ (H : Table). start + length H) all in
+      record {
+        end = f ∙ sym (fit-within room (start + length (slices (suc rest) T)) (omega (arith, s .within)));
+        written = λ l. s .written ∙ ap (λ (H : Table). take (start * n) out ++ flat (Rattle.completion.specs.Slices.after (take (n - suc rest) head) H)) all;
+        kept = k;
+      }
+
+-- ---- small facts
 
 -- what was written is no less than before
 pub appended-above : {n rest rows : ℕ} {head work out : List ℕ} {room x r : ℕ} {work' out' : List ℕ} → Appended n rest rows head work out room x r work' out' → r ≤ room → x ≤ r

@@ -1,13 +1,13 @@
 -- The operation: from a table of bytes to the recursion, and from its rows to the promise.
 --
---   collect-roomy          the working array is large enough
+--   collect-roomy, copied-fits, links-fit   the working arrays are large enough
 --   collected              the recursion on the whole table gives rule 5's table
 --   room-whole, room-limit the room, where it is the buffer's and where it is 4,096
---   collect-asks, done, no-rows   the promise: accepted, and refused for room
+--   complete-early, complete-full, complete-done   the promise: refused by the checks 1 to 4, refused for room, accepted
 use mathlib.Core.Path.{_≡_, sym, ap, _∙_, subst}
 use mathlib.Core.List.{List, [], _∷_, _++_}
 use Prim.Native.Nat.{ℕ, zero, suc, _+_, _*_, _-_, _/_, _≤_, _<_}
-use native.Mathlib.Nat.{mul-div-left, mul-le-mul-left, min-eq-left, min-eq-right, min-le-left}
+use native.Mathlib.Nat.{mul-div-left, mul-le-mul-left, min-eq-left, min-eq-right}
 use native.Mathlib.Omega.{arith}
 use lib.ListN.{length, take, drop}
 use lib.Seq.{paste, take-paste}
@@ -22,7 +22,7 @@ use Rattle.completion.specs.declared.CompleteAnswer.the-variants.{Rows, 
 use Rattle.completion.specs.Code.{space, Appended, Roomy, Collects, Collected}
 use Rattle.completion.proofs.WalkLaws.{slices-completed}
 use Rattle.completion.proofs.BufferLaws.{after-none, fit-within, beyond-fit, within-fit}
-use Rattle.completion.proofs.OperationLaws.{complete-accepts, complete-refuses, room-enough, no-room}
+use Rattle.completion.proofs.OperationLaws.{complete-accepts, complete-refuses, room-enough, no-room, room-limited}
 use Rattle.completion.proofs.CodeBytes.{rows-fewer}
 use Rattle.completion.proofs.CodeRows.{same-rows}
 
@@ -88,10 +88,6 @@ pub room-limit : (n size : ℕ) → 4096 ≤ size / n → 4096 ≡ roomFor n siz
 unfolding roomFor
 room-limit n size h = sym (min-eq-left {n = 4096} {m = size / n} h)
 
-pub room-most : (n size : ℕ) → roomFor n size ≤ 4096
-unfolding roomFor
-room-most n size = min-le-left 4096 (size / n)
-
 -- ---- the promise
 
 module _ (n : ℕ) (table buffer : List ℕ) where
@@ -111,7 +107,7 @@ module _ (n : ℕ) (table buffer : List ℕ) where
 
     pub collect-asks : (out : List ℕ) (room : ℕ) → length out ≡ 24576 → room ≡ roomFor n (length buffer) → Collects n table (length table / n) out room
     collect-asks out room l r =
-        let most : room ≤ 4096 = omega (arith, room-most n (length buffer)) in
+        let most : room ≤ 4096 = omega (arith, room-limited n (length buffer)) in
         let k : room * n ≤ 4096 * n = rows-fewer room 4096 n most in
         record {
           some = passed .some;

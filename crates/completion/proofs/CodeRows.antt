@@ -5,27 +5,23 @@
 --   read-back              rows that were written are read again
 --   pasted-front, pasted-rows   the bytes before a copy, and the rows of the copy
 --   columned, column-more  the rows with exponent k set in the first of them, and in one more
---   tails-more, tails-stay the tails of one more row
+--   same-piece, same-byte, same-part, front-of   what lies before a place up to which two arrays are equal
+--   compact-more           the last exponents of one more row are written
+--   again-rows, repeat-more, repeat-beyond   a block once more, once more at each turn, and without room
 --   copies-repeated        copies of a block behind a front are its repetitions
 use mathlib.Core.Path.{_≡_, refl, sym, ap, _∙_}
-use mathlib.Core.Bool.{Bool, true, false}
 use mathlib.Core.List.{List, [], _∷_, _++_, map, tail, map-append, append-assoc, append-nil, Memᴰ·of-map}
 use Prim.Native.Nat.{ℕ, zero, suc, _+_, _*_, _-_, _≤_, _<_}
 use native.Mathlib.Nat.{mul-le-mul-right, add-mul}
 use native.Mathlib.Numerals.{add-one}
 use native.Mathlib.Omega.{arith}
-use borrow.Author.Tests.{eq-eqb, ne-eqb}
-use lib.Dec.{eqb}
 use lib.ListN.{length, take, drop, getD, set, length-append, length-drop, length-set, length-map, take-append-drop}
-use lib.Seq.{paste, length-take-le, getD-take, getD-drop, drop-drop, take-add, take-take, take-at, drop-at, take-append-le, set-append-left, take-paste}
-use Rattle.terms.specs.Tests.{pick, keep}
-use Rattle.terms.specs.Monomials.{Monomial, Table, _!_, OfSize}
+use lib.Seq.{paste, length-take-le, getD-take, drop-drop, take-add, take-take, take-at, drop-at, take-append-le, set-append-left, take-paste}
+use Rattle.terms.specs.Monomials.{Monomial, Table, OfSize}
 use Rattle.terms.specs.Rows.{firstRows, flat}
-use Rattle.terms.proofs.RowsLaws.{length-firstRows, firstRows-size, firstRows-flat, length-flat, row-fits}
-use Rattle.completion.proofs.SliceLaws.{at-size}
-use Rattle.completion.proofs.WalkLaws.{slice-few}
+use Rattle.terms.proofs.RowsLaws.{length-firstRows, firstRows-size, firstRows-flat, length-flat}
 use Rattle.completion.specs.Blocks.{behind, repeated}
-use Rattle.completion.specs.Slices.{slice, at, after, fit}
+use Rattle.completion.specs.Slices.{at, after, fit}
 use Rattle.completion.specs.Code.{part, copies}
 use Rattle.completion.proofs.BlockLaws.{cons-same}
 use Rattle.completion.proofs.CodeBytes.{rows-before, rows-fewer}
@@ -200,54 +196,6 @@ copies-repeated p last b zero B = refl
 copies-repeated p last b (suc j) B =
     rw (copies-repeated p last b j B, after-set p last (b + j) B) (sym (after-append p (repeated b j B) (behind (b + j) B)))
 
--- ---- tails
-
-slice-append : (f : ℕ → Bool) (G H : Table) → slice f (G ++ H) ≡ slice f G ++ slice f H
-unfolding slice
-slice-append f [] H = refl
-slice-append f (u ∷ G) H = go (f (u ! 1)) (slice-append f G H)
-  where
-    go : (c : Bool) → map tail (keep (λ v. f (v ! 1)) (G ++ H)) ≡ map tail (keep (λ v. f (v ! 1)) G) ++ map tail (keep (λ v. f (v ! 1)) H)
-        → map tail (pick c (u ∷ keep (λ v. f (v ! 1)) (G ++ H)) (keep (λ v. f (v ! 1)) (G ++ H))) ≡ map tail (pick c (u ∷ keep (λ v. f (v ! 1)) G) (keep (λ v. f (v ! 1)) G)) ++ map tail (keep (λ v. f (v ! 1)) H)
-    go true e = cons-same refl e
-    go false e = e
-
-at-head : (a : ℕ) (u : Monomial) → u ! 1 ≡ a → at a (u ∷ []) ≡ tail u ∷ []
-unfolding slice
-at-head a u e = rw (eq-eqb _ _ e)
-
-at-other : (a : ℕ) (u : Monomial) → (u ! 1 ≡ a → ⊥) → at a (u ∷ []) ≡ []
-unfolding slice
-at-other a u e = rw (ne-eqb _ _ e)
-
-module _ (a m i : ℕ) (b : List ℕ) where
-  row-snoc : firstRows m (i + 1) b ≡ firstRows m i b ++ (take m (drop (i * m) b) ∷ [])
-  unfolding firstRows
-  row-snoc = firstRows-add m i 1 b
-
-  pub tails-more : 0 < m → getD b (i * m) 0 ≡ a → at a (firstRows m (i + 1) b) ≡ at a (firstRows m i b) ++ (tail (take m (drop (i * m) b)) ∷ [])
-  tails-more p e =
-      let z : i * m + 0 ≡ i * m = omega arith in
-      let h : take m (drop (i * m) b) ! 1 ≡ a = getD-take m (drop (i * m) b) 0 0 p ∙ getD-drop (i * m) b 0 0 ∙ ap (λ (x : ℕ). getD b x 0) z ∙ e in
-      ap (λ (G : Table). at a G) row-snoc ∙ slice-append (λ x. eqb x a) (firstRows m i b) (take m (drop (i * m) b) ∷ [])
-      ∙ ap (λ (G : Table). at a (firstRows m i b) ++ G) (at-head a (take m (drop (i * m) b)) h)
-
-  pub tails-stay : 0 < m → (getD b (i * m) 0 ≡ a → ⊥) → at a (firstRows m (i + 1) b) ≡ at a (firstRows m i b)
-  tails-stay p e =
-      let z : i * m + 0 ≡ i * m = omega arith in
-      let h : take m (drop (i * m) b) ! 1 ≡ getD b (i * m) 0 = getD-take m (drop (i * m) b) 0 0 p ∙ getD-drop (i * m) b 0 0 ∙ ap (λ (x : ℕ). getD b x 0) z in
-      ap (λ (G : Table). at a G) row-snoc ∙ slice-append (λ x. eqb x a) (firstRows m i b) (take m (drop (i * m) b) ∷ [])
-      ∙ ap (λ (G : Table). at a (firstRows m i b) ++ G) (at-other a (take m (drop (i * m) b)) (λ q. e (sym h ∙ q)))
-      ∙ append-nil (at a (firstRows m i b))
-
-  pub tails-few : (count : ℕ) → i ≤ count → length (at a (firstRows m i b)) ≤ length (at a (firstRows m count b))
-  tails-few count h =
-      let s : i + (count - i) ≡ count = omega arith in
-      let g : firstRows m count b ≡ firstRows m i b ++ part m (count - i) (i * m) b = ap (λ (x : ℕ). firstRows m x b) (sym s) ∙ firstRows-add m i (count - i) b in
-      let l : length (at a (firstRows m count b)) ≡ length (at a (firstRows m i b)) + length (at a (part m (count - i) (i * m) b)) =
-      ap (λ (G : Table). length (at a G)) g ∙ ap length (slice-append (λ x. eqb x a) (firstRows m i b) (part m (count - i) (i * m) b)) ∙ length-append (at a (firstRows m i b)) (at a (part m (count - i) (i * m) b)) in
-      omega arith
-
 -- ---- what lies before a place that is equal in two arrays
 
 pub same-piece : (x r y : ℕ) (b d : List ℕ) → x + r ≤ y → take y b ≡ take y d → take r (drop x b) ≡ take r (drop x d)
@@ -299,25 +247,6 @@ pub tail-take : (r : ℕ) (l : List ℕ) → tail (take (suc r) l) ≡ take r (d
 tail-take r [] = sym (lib.Seq.take-nil r)
 tail-take r (x ∷ l) = refl
 
-pub tails-written : (a rest i to taken row : ℕ) (b c d : List ℕ) → row ≡ i * suc rest → i * suc rest + suc rest ≤ to → to + taken * rest + rest ≤ length b → to ≤ length d →
-    take (to + taken * rest) b ≡ take to d ++ flat (at a (firstRows (suc rest) i d)) →
-    c ≡ paste b (to + taken * rest) (drop (row + 1) b) rest → getD b row 0 ≡ a →
-    take (to + (taken + 1) * rest) c ≡ take to d ++ flat (at a (firstRows (suc rest) (i + 1) d))
-tails-written a rest i to taken row b c d w h g f e p q =
-    let G : Table = at a (firstRows (suc rest) i d) in
-    let same : take to b ≡ take to d = front-of to (to + taken * rest) b d (flat G) (omega arith) (length-take-le to d f) e in
-    let x : ℕ = i * suc rest in
-    let v : getD d x 0 ≡ a = sym (same-byte x to b d (omega arith) same) ∙ (ap (λ (y : ℕ). getD b y 0) (sym w) ∙ q) in
-    let s : rest ≤ length (drop (row + 1) b) = rw length-drop (omega arith) in
-    let next : to + (taken + 1) * rest ≡ to + taken * rest + rest = omega arith in
-    let piece : take rest (drop (row + 1) b) ≡ tail (take (suc rest) (drop x d)) =
-    ap (λ (y : ℕ). take rest (drop (y + 1) b)) w ∙ same-piece (x + 1) rest to b d (omega arith) same
-    ∙ ap (λ (l : List ℕ). take rest l) (sym (drop-drop 1 x d)) ∙ sym (tail-take rest (drop x d)) in
-    ap (λ (y : ℕ). take y c) next
-    ∙ ap (λ (l : List ℕ). take (to + taken * rest + rest) l) p
-    ∙ take-paste b (to + taken * rest) (drop (row + 1) b) rest (omega arith) s
-    ∙ rw (e, piece, tails-more a (suc rest) i d (omega arith) v, flat-snoc G (tail (take (suc rest) (drop x d)))) (append-assoc (take to d) (flat G) (tail (take (suc rest) (drop x d))))
-
 -- ---- a block repeated
 
 pub repeat-more : (n k first count stop b e end : ℕ) (out new d : List ℕ) → b ≤ e → first + count ≤ stop → stop ≤ end → end * n ≤ length out → stop * n ≤ length d →
@@ -346,58 +275,3 @@ repeat-beyond k b a e stop count end room S h l s p q =
     let t : suc (e - b) * length S ≡ (e - b) * length S + length S = omega arith in
     let g : room < stop + length (copies k b (a - b) S) = omega (arith, length-copies k b (a - b) S, length-copies k b (e - b) S) in
     sym (fit-beyond room (stop + length (copies k b (a - b) S)) g ∙ sym (add-one room))
-
--- the tails of one more row have room where those of all rows have it
-pub tails-room : (a rest i count to taken : ℕ) (d b : List ℕ) → i < count → count * suc rest ≤ to → to + length (at a (firstRows (suc rest) count d)) * rest ≤ length d →
-    taken ≡ length (at a (firstRows (suc rest) i d)) → length b ≡ length d → take (to + taken * rest) b ≡ take to d ++ flat (at a (firstRows (suc rest) i d)) →
-    getD b (i * (rest + 1)) 0 ≡ a → (to + taken * rest + rest ≤ length d) × (taken < count)
-tails-room a rest i count to taken d b h g f e l p q =
-    let m = row-fits i count (suc rest) to h g in
-    let w : i * (rest + 1) ≡ i * suc rest = omega arith in
-    let same : take to b ≡ take to d = front-of to (to + taken * rest) b d (flat (at a (firstRows (suc rest) i d))) (omega arith) (length-take-le to d (omega arith)) p in
-    let v : getD d (i * suc rest) 0 ≡ a = sym (same-byte (i * suc rest) to b d (omega arith) same) ∙ (ap (λ (y : ℕ). getD b y 0) (sym w) ∙ q) in
-    let more : length (at a (firstRows (suc rest) (i + 1) d)) ≡ length (at a (firstRows (suc rest) i d)) + 1 = ap length (tails-more a (suc rest) i d (omega arith) v) ∙ length-append (at a (firstRows (suc rest) i d)) (tail (take (suc rest) (drop (i * suc rest) d)) ∷ []) in
-    let few : taken + 1 ≤ length (at a (firstRows (suc rest) count d)) = omega (arith, tails-few a (suc rest) (i + 1) d count (omega arith)) in
-    let times : (taken + 1) * rest ≤ length (at a (firstRows (suc rest) count d)) * rest = rows-fewer (taken + 1) (length (at a (firstRows (suc rest) count d))) rest few in
-    let all : length (at a (firstRows (suc rest) count d)) ≤ count = omega (arith, slice-few (λ x. eqb x a) (firstRows (suc rest) count d), length-firstRows (suc rest) count d) in
-    (omega arith, omega arith)
-
-pub tails-done : (a rest count i to taken : ℕ) (d b : List ℕ) → i ≡ count → count * suc rest ≤ to → to + length (at a (firstRows (suc rest) count d)) * rest ≤ length d →
-    taken ≡ length (at a (firstRows (suc rest) i d)) → take (to + taken * rest) b ≡ take to d ++ flat (at a (firstRows (suc rest) i d)) →
-    (taken ≡ length (at a (firstRows (suc rest) count d))) × (take to b ≡ take to d) × (part rest taken to b ≡ at a (firstRows (suc rest) count d))
-tails-done a rest count i to taken d b e g f l p =
-    let l' : taken ≡ length (at a (firstRows (suc rest) count d)) = l ∙ ap (λ (x : ℕ). length (at a (firstRows (suc rest) x d))) e in
-    let p' : take (to + taken * rest) b ≡ take to d ++ flat (at a (firstRows (suc rest) count d)) = p ∙ ap (λ (x : ℕ). take to d ++ flat (at a (firstRows (suc rest) x d))) e in
-    let z = at-size a (firstRows (suc rest) count d) (firstRows-size (suc rest) count d (omega arith)) in (
-      l',
-      front-of to (to + taken * rest) b d (flat (at a (firstRows (suc rest) count d))) (omega arith) (length-take-le to d (omega arith)) p',
-      read-back rest taken to b (take to d) (at a (firstRows (suc rest) count d)) z (sym l') (length-take-le to d (omega arith)) p',
-    )
-
-module _ (a rest i count to taken : ℕ) (d b : List ℕ) (h : i < count) (g : count * suc rest ≤ to) (f : to + length (at a (firstRows (suc rest) count d)) * rest ≤ length d)
-    (e : taken ≡ length (at a (firstRows (suc rest) i d))) (l : length b ≡ length d) (p : take (to + taken * rest) b ≡ take to d ++ flat (at a (firstRows (suc rest) i d))) where
-  same-head : getD b (i * (rest + 1)) 0 ≡ getD d (i * suc rest) 0
-  same-head =
-      let m = row-fits i count (suc rest) to h g in
-      let w : i * (rest + 1) ≡ i * suc rest = omega arith in
-      let same : take to b ≡ take to d = front-of to (to + taken * rest) b d (flat (at a (firstRows (suc rest) i d))) (omega arith) (length-take-le to d (omega arith)) p in
-      ap (λ (y : ℕ). getD b y 0) w ∙ same-byte (i * suc rest) to b d (omega arith) same
-
-  pub tails-again : (c : List ℕ) (new : ℕ) → getD b (i * (rest + 1)) 0 ≡ a → c ≡ paste b (to + taken * rest) (drop (i * (rest + 1) + 1) b) rest → length c ≡ length b → new ≡ taken + 1 →
-      (new ≡ length (at a (firstRows (suc rest) (i + 1) d))) × (length c ≡ length d) × (take (to + new * rest) c ≡ take to d ++ flat (at a (firstRows (suc rest) (i + 1) d)))
-  tails-again c new q r s t =
-      let m = row-fits i count (suc rest) to h g in
-      let room = tails-room a rest i count to taken d b h g f e l p q in
-      let w : i * (rest + 1) ≡ i * suc rest = omega arith in
-      let more : length (at a (firstRows (suc rest) (i + 1) d)) ≡ length (at a (firstRows (suc rest) i d)) + 1 =
-      ap length (tails-more a (suc rest) i d (omega arith) (sym same-head ∙ q)) ∙ length-append (at a (firstRows (suc rest) i d)) (tail (take (suc rest) (drop (i * suc rest) d)) ∷ []) in (
-        omega arith,
-        s ∙ l,
-        ap (λ (x : ℕ). take (to + x * rest) c) t ∙ tails-written a rest i to taken (i * (rest + 1)) b c d w (omega arith) (omega (arith, room .0)) (omega arith) p r q,
-      )
-
-  pub tails-pass : (c : List ℕ) (new : ℕ) → (getD b (i * (rest + 1)) 0 ≡ a → ⊥) → c ≡ b → new ≡ taken →
-      (new ≡ length (at a (firstRows (suc rest) (i + 1) d))) × (length c ≡ length d) × (take (to + new * rest) c ≡ take to d ++ flat (at a (firstRows (suc rest) (i + 1) d)))
-  tails-pass c new q r t =
-      let same : at a (firstRows (suc rest) (i + 1) d) ≡ at a (firstRows (suc rest) i d) = tails-stay a (suc rest) i d (omega arith) (λ x. q (same-head ∙ x)) in
-      rw (same, r, t) (e, l, p)

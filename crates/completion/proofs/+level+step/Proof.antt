@@ -1,23 +1,22 @@
+-- `level` and `step` meet their contracts. `level` calls `step` at the same number of variables, and `step` calls `level` at one less: 2r for `step` and 2r + 1 for `level`, with r variables behind the present one.
+-- The loop of `level`: what is written, the block, the generators and the last head are those of the model's walk after the heads below a, and the chains stand.
+-- `step` follows the model's step: the tails are collected, tested, and where they grow the block is repeated and the next level is called.
 use borrow.Rule.Slice.PartMut.{putMid, take-put, same-len-mid}
 use native.Mathlib.Numerals.{add-one}
+use lib.ListN.{length-replicate, length, take, drop, set}
 use borrow.Author.Tests.{not-true, not-false}
 use Rattle.terms.specs.Rows.{firstRows}
-use Rattle.completion.proofs.CodeBytes.{rows-fewer}
+use Rattle.completion.proofs.CodeBytes.{rows-fewer, times-large, times-less}
 use Rattle.completion.proofs.CodeLevel.{level-start, level-full, level-done, table-wide, tails-wide, roomy-as, next-roomy, appended-above, lent-all, lent-length, walk-last}
 use Rattle.completion.proofs.CodeStep.{few, grows-as, step-stays, step-full, step-over, step-keeps, step-takes}
 use Rattle.completion.specs.Slices.{at, slices, heads}
 use Rattle.completion.specs.Code.{Appended, Standing, Roomy, Linked, Firsts}
 use Rattle.completion.proofs.CodeChain.{linked-as, zeros-at}
-use Rattle.completion.proofs.CodeBytes.{times-large, times-less}
 use Rattle.terms.proofs.RowsLaws.{length-firstRows}
-use lib.ListN.{length-replicate}
 use borrow.Author.Needs.{needs}
 use native.Mathlib.Omega.{arith}
 use mathlib.Core.Path.{_≡_, refl, sym, ap, _∙_, subst}
-use Prim.Native.Nat.{suc, _+_, _*_, _-_, _≤_}
-use lib.ListN.{length, take, drop, set}
-use denote.Ref.{now}
-use Prim.Native.Nat.{ℕ, _<_}
+use Prim.Native.Nat.{suc, _+_, _*_, _-_, _≤_, ℕ, _<_}
 use borrow.Fn.Kinds.{In}
 use borrow.Fn.PlainCycle.{Measures, is, falls, and}
 use Rattle.completion.proofs.level.Reads as level
@@ -79,7 +78,8 @@ level-last-variable-requires : (t : ℕ) → level-lts.Need-last-variable-requir
   step-below t,
   step.Post,
 ) (level-at t) level.Post level-Inv-loop level-μ-loop
-level-last-variable-requires t c κs = let s = c .before .before .before .before .before .before in let a = s .args in
+level-last-variable-requires t c κs =
+    let s = c .before .before .before .before .before .before in let a = s .args in
     subst (λ (x : ℕ). Roomy (a .head .n) x (a .rows) (a .work .now) (a .out .now) (a .room) (a .at)) (c .before .before .if1 .taken) (s .pre .1 .0)
 
 level-same-length : (t : ℕ) → level-lts.Need-same-length (
@@ -116,7 +116,8 @@ level-returns : (t : ℕ) → level-lts.Need-returns (
   step-below t,
   step.Post,
 ) (level-at t) level.Post level-Inv-loop level-μ-loop
-level-returns t c = let s = c .before .before .before .before .before .before .before .before .before in let a = s .args in
+level-returns t c =
+    let s = c .before .before .before .before .before .before .before .before .before in let a = s .args in
     subst (λ (x : ℕ). Appended (a .head .n) x (a .rows) (a .head .exponents) (a .work .now) (a .out .now) (a .room) (a .at) (c .before .before .last-variable .result) (a .work .now) (c .before .before .last-variable .last .1 .1 .1 .0))
     (sym (c .before .before .before .before .before .if1 .taken)) (c .before .before .last-variable .ensures)
 
@@ -154,7 +155,8 @@ level-chain-requires : (t : ℕ) → level-lts.Need-chain-requires (
   step-below t,
   step.Post,
 ) (level-at t) level.Post level-Inv-loop level-μ-loop
-level-chain-requires t c κs = let s = c .before .before .before .before .before .before .before in let a = s .args in
+level-chain-requires t c κs =
+    let s = c .before .before .before .before .before .before .before in let a = s .args in
     let f = table-wide (s .pre .1 .0) in
     let g = times-large (a .rows) (a .rest) (omega arith) in
     (omega arith, omega arith, s .pre .1 .0 .many, omega (arith, s .pre .1 .1), length-replicate {A = ℕ} 256 0, zeros-at 256)
@@ -181,7 +183,8 @@ level-head-count-requires : (t : ℕ) → level-lts.Need-head-count-requires (
   step-below t,
   step.Post,
 ) (level-at t) level.Post level-Inv-loop level-μ-loop
-level-head-count-requires t c κs = let s = c .before .before .before .before .before .before .before .before .before .before .before .before in let a = s .args in
+level-head-count-requires t c κs =
+    let s = c .before .before .before .before .before .before .before .before .before .before .before .before in let a = s .args in
     let f = table-wide (s .pre .1 .0) in
     (omega arith, omega arith)
 
@@ -195,17 +198,18 @@ level-loop-holds : (t : ℕ) → level-lts.Need-loop-holds (
   step-below t,
   step.Post,
 ) (level-at t) level.Post level-Inv-loop level-μ-loop
-level-loop-holds t c = let s = c .before .before .before .before .before .before .before .before .before .before .before .before .before in let a = s .args in (
-  level-start (a .head .n) (a .rest) (a .rows) (a .head .exponents) (a .work .now) (a .out .now) (a .room) (a .at) (s .pre .1 .0),
-  refl,
-  omega arith,
-  refl,
-  refl,
-  refl,
-  c .before .before .before .before .before .chain .kept .1 .1 .1 .1 .0 ∙ length-replicate {A = ℕ} 256 0,
-  subst (λ (m : ℕ). Linked (firstRows m (a .rows) (a .work .now)) (c .before .before .before .before .before .chain .last .1 .1 .1 .0)) (add-one (a .rest)) (c .before .before .before .before .before .chain .ensures .0),
-  subst (λ (m : ℕ). Firsts (firstRows m (a .rows) (a .work .now)) (c .before .before .before .before .before .chain .last .1 .1 .1 .1 .0)) (add-one (a .rest)) (c .before .before .before .before .before .chain .ensures .1),
-)
+level-loop-holds t c =
+    let s = c .before .before .before .before .before .before .before .before .before .before .before .before .before in let a = s .args in (
+      level-start (a .head .n) (a .rest) (a .rows) (a .head .exponents) (a .work .now) (a .out .now) (a .room) (a .at) (s .pre .1 .0),
+      refl,
+      omega arith,
+      refl,
+      refl,
+      refl,
+      c .before .before .before .before .before .chain .kept .1 .1 .1 .1 .0 ∙ length-replicate {A = ℕ} 256 0,
+      subst (λ (m : ℕ). Linked (firstRows m (a .rows) (a .work .now)) (c .before .before .before .before .before .chain .last .1 .1 .1 .0)) (add-one (a .rest)) (c .before .before .before .before .before .chain .ensures .0),
+      subst (λ (m : ℕ). Firsts (firstRows m (a .rows) (a .work .now)) (c .before .before .before .before .before .chain .last .1 .1 .1 .1 .0)) (add-one (a .rest)) (c .before .before .before .before .before .chain .ensures .1),
+    )
 
 level-slice-aggregate-step : (t : ℕ) → level-lts.Need-slice-aggregate-step (
   last-variable-reads.Asked,
@@ -229,7 +233,8 @@ level-step-requires : (t : ℕ) → level-lts.Need-step-requires (
   step-below t,
   step.Post,
 ) (level-at t) level.Post level-Inv-loop level-μ-loop
-level-step-requires t c κs = let s = c .before .before .before .before .before .before .before .before .before .before .before .before .before .before .before .before .before .before .before in let a = s .args in let l = c .before .before .before .before .before .loop in
+level-step-requires t c κs =
+    let s = c .before .before .before .before .before .before .before .before .before .before .before .before .before .before .before .before .before .before .before in let a = s .args in let l = c .before .before .before .before .before .loop in
     let same : firstRows (suc (a .rest)) (a .rows) (l .work) ≡ firstRows (suc (a .rest)) (a .rows) (a .work .now) = l .inv .0 .table in (
       omega (arith, s .pre .0),
       (
@@ -290,7 +295,8 @@ level-returns-2 : (t : ℕ) → level-lts.Need-returns-2 (
   step-below t,
   step.Post,
 ) (level-at t) level.Post level-Inv-loop level-μ-loop
-level-returns-2 t c = let s = c .before .before .before .before .before .before .before .before .before .before .before .before .before .before .before .before .before .before .before .before .before .before .before .before .before .before .before .before in let a = s .args in let l = c .before .before .before .before .before .before .before .before .before .before .before .before .before .before .loop in
+level-returns-2 t c =
+    let s = c .before .before .before .before .before .before .before .before .before .before .before .before .before .before .before .before .before .before .before .before .before .before .before .before .before .before .before .before in let a = s .args in let l = c .before .before .before .before .before .before .before .before .before .before .before .before .before .before .loop in
     let q = c .before .before .before .before .before .before .before .before .step .ensures .1 (firstRows (suc (a .rest)) (a .rows) (a .work .now)) (a .at) (take (a .at * a .head .n) (a .out .now)) (l .inv .0) in
     level-full (a .head .n) (a .rest) (a .rows) (a .head .exponents) (a .work .now) (a .out .now) (a .room) (a .at) (s .pre .1 .0) (l .a) (l .work) _ _ _ (l .inv .1) q (c .if2 .taken)
 
@@ -328,7 +334,8 @@ level-loop-again : (t : ℕ) → level-lts.Need-loop-again (
   step-below t,
   step.Post,
 ) (level-at t) level.Post level-Inv-loop level-μ-loop
-level-loop-again t c = let s = c .before .before .before .before .before .before .before .before .before .before .before .before .before .before .before .before .before .before .before .before .before .before .before .before .before .before .before .before in let a = s .args in let l = c .before .before .before .before .before .before .before .before .before .before .before .before .before .before .loop in
+level-loop-again t c =
+    let s = c .before .before .before .before .before .before .before .before .before .before .before .before .before .before .before .before .before .before .before .before .before .before .before .before .before .before .before .before in let a = s .args in let l = c .before .before .before .before .before .before .before .before .before .before .before .before .before .before .loop in
     let T = firstRows (suc (a .rest)) (a .rows) (a .work .now) in
     let q = c .before .before .before .before .before .before .before .before .step .ensures .1 T (a .at) (take (a .at * a .head .n) (a .out .now)) (l .inv .0) in (
       rw (add-one (l .a)) (q .on (c .if2 .left)),
@@ -388,7 +395,8 @@ level-returns-3 : (t : ℕ) → level-lts.Need-returns-3 (
   step-below t,
   step.Post,
 ) (level-at t) level.Post level-Inv-loop level-μ-loop
-level-returns-3 t c = let s = c .before .before .before .before .before .before .before .before .before .before .before .before .before .before .before in let a = s .args in let l = c .before .loop in
+level-returns-3 t c =
+    let s = c .before .before .before .before .before .before .before .before .before .before .before .before .before .before .before in let a = s .args in let l = c .before .loop in
     let h : c .before .before .head-count .result ≡ heads (firstRows (suc (a .rest)) (a .rows) (a .work .now)) = c .before .before .head-count .ensures .0 ∙ ap (λ (m : ℕ). heads (firstRows m (a .rows) (a .work .now))) (add-one (a .rest)) in
     level-done (a .head .n) (a .rest) (a .rows) (a .head .exponents) (a .work .now) (a .out .now) (a .room) (a .at) (s .pre .1 .0) (l .a) (l .work) (l .out) (l .w) (omega arith) (l .inv .1) (l .inv .0)
 
@@ -418,7 +426,8 @@ step-mul-base : (t : ℕ) → step-lts.Need-mul-base (
   compact-reads.Asked,
   compact-reads.Learnt,
 ) (step-at t) step.Post
-step-mul-base t c = let s = c .before .before .before .before in let a = s .args in let q = s .pre .1 in
+step-mul-base t c =
+    let s = c .before .before .before .before in let a = s .args in let q = s .pre .1 in
     let e6 : length (a .head .exponents) ≡ 6 = search needs in
     let S = q .7 .3 in
     let f = few (q .7 .0) (q .7 .1) (q .7 .2) (a .head .n) (a .rest) (a .rows) (a .head .exponents) (a .room) (a .a) (a .work .now) (a .out .now) (a .w) S (q .0 .variables) (omega (arith, q .0 .six)) (table-wide (q .0)) (q .0 .holds) in
@@ -437,7 +446,8 @@ step-mul-take-tails : (t : ℕ) → step-lts.Need-mul-take-tails (
   compact-reads.Asked,
   compact-reads.Learnt,
 ) (step-at t) step.Post
-step-mul-take-tails t c = let s = c .before .before .before .before .before .before in let a = s .args in let q = s .pre .1 in
+step-mul-take-tails t c =
+    let s = c .before .before .before .before .before .before in let a = s .args in let q = s .pre .1 in
     let e6 : length (a .head .exponents) ≡ 6 = search needs in
     let S = q .7 .3 in
     let f = few (q .7 .0) (q .7 .1) (q .7 .2) (a .head .n) (a .rest) (a .rows) (a .head .exponents) (a .room) (a .a) (a .work .now) (a .out .now) (a .w) S (q .0 .variables) (omega (arith, q .0 .six)) (table-wide (q .0)) (q .0 .holds) in
@@ -457,7 +467,8 @@ step-add-take-tails : (t : ℕ) → step-lts.Need-add-take-tails (
   compact-reads.Asked,
   compact-reads.Learnt,
 ) (step-at t) step.Post
-step-add-take-tails t c = let s = c .before .before .before .before .before .before in let a = s .args in let q = s .pre .1 in
+step-add-take-tails t c =
+    let s = c .before .before .before .before .before .before in let a = s .args in let q = s .pre .1 in
     let e6 : length (a .head .exponents) ≡ 6 = search needs in
     let S = q .7 .3 in
     let f = few (q .7 .0) (q .7 .1) (q .7 .2) (a .head .n) (a .rest) (a .rows) (a .head .exponents) (a .room) (a .a) (a .work .now) (a .out .now) (a .w) S (q .0 .variables) (omega (arith, q .0 .six)) (table-wide (q .0)) (q .0 .holds) in
@@ -477,7 +488,8 @@ step-take-tails-requires : (t : ℕ) → step-lts.Need-take-tails-requires (
   compact-reads.Asked,
   compact-reads.Learnt,
 ) (step-at t) step.Post
-step-take-tails-requires t c κs = let s = c .before .before .before .before .before .before in let a = s .args in let q = s .pre .1 in
+step-take-tails-requires t c κs =
+    let s = c .before .before .before .before .before .before in let a = s .args in let q = s .pre .1 in
     let e6 : length (a .head .exponents) ≡ 6 = search needs in
     let S = q .7 .3 in
     let f = few (q .7 .0) (q .7 .1) (q .7 .2) (a .head .n) (a .rest) (a .rows) (a .head .exponents) (a .room) (a .a) (a .work .now) (a .out .now) (a .w) S (q .0 .variables) (omega (arith, q .0 .six)) (table-wide (q .0)) (q .0 .holds) in
@@ -498,7 +510,8 @@ step-grows-requires : (t : ℕ) → step-lts.Need-grows-requires (
   compact-reads.Asked,
   compact-reads.Learnt,
 ) (step-at t) step.Post
-step-grows-requires t c κs = let s = c .before .before .before .before .before .before .before .before .before .before in let a = s .args in let q = s .pre .1 in
+step-grows-requires t c κs =
+    let s = c .before .before .before .before .before .before .before .before .before .before in let a = s .args in let q = s .pre .1 in
     let e6 : length (a .head .exponents) ≡ 6 = search needs in
     let S = q .7 .3 in
     let f = few (q .7 .0) (q .7 .1) (q .7 .2) (a .head .n) (a .rest) (a .rows) (a .head .exponents) (a .room) (a .a) (a .work .now) (a .out .now) (a .w) S (q .0 .variables) (omega (arith, q .0 .six)) (table-wide (q .0)) (q .0 .holds) in
@@ -546,7 +559,8 @@ step-returns : (t : ℕ) → step-lts.Need-returns (
   compact-reads.Asked,
   compact-reads.Learnt,
 ) (step-at t) step.Post
-step-returns t c = let s = c .before .before .before .before .before .before .before .before .before .before .before .before in let a = s .args in let q = s .pre .1 in
+step-returns t c =
+    let s = c .before .before .before .before .before .before .before .before .before .before .before .before in let a = s .args in let q = s .pre .1 in
     let e6 : length (a .head .exponents) ≡ 6 = search needs in
     let g = tails-wide (q .0) in
     let k = c .before .before .before .before .before .take-tails in
@@ -600,7 +614,8 @@ step-repeat-requires : (t : ℕ) → step-lts.Need-repeat-requires (
   compact-reads.Asked,
   compact-reads.Learnt,
 ) (step-at t) step.Post
-step-repeat-requires t c κs = let s = c .before .before .before .before .before .before .before .before .before .before .before .before .before in let a = s .args in let q = s .pre .1 in
+step-repeat-requires t c κs =
+    let s = c .before .before .before .before .before .before .before .before .before .before .before .before .before in let a = s .args in let q = s .pre .1 in
     let e6 : length (a .head .exponents) ≡ 6 = search needs in
     let S = q .7 .3 in
     let f = few (q .7 .0) (q .7 .1) (q .7 .2) (a .head .n) (a .rest) (a .rows) (a .head .exponents) (a .room) (a .a) (a .work .now) (a .out .now) (a .w) S (q .0 .variables) (omega (arith, q .0 .six)) (table-wide (q .0)) (q .0 .holds) in
@@ -661,7 +676,8 @@ step-returns-2 : (t : ℕ) → step-lts.Need-returns-2 (
   compact-reads.Asked,
   compact-reads.Learnt,
 ) (step-at t) step.Post
-step-returns-2 t c = let s = c .before .before .before .before .before .before .before .before .before .before .before .before .before .before .before .before .before in let a = s .args in let q = s .pre .1 in
+step-returns-2 t c =
+    let s = c .before .before .before .before .before .before .before .before .before .before .before .before .before .before .before .before .before in let a = s .args in let q = s .pre .1 in
     let e6 : length (a .head .exponents) ≡ 6 = search needs in
     let g = tails-wide (q .0) in
     let k = c .before .before .before .before .before .before .before .before .before .before .take-tails in
@@ -743,7 +759,8 @@ step-add-all : (t : ℕ) → step-lts.Need-add-all (
   compact-reads.Asked,
   compact-reads.Learnt,
 ) (step-at t) step.Post
-step-add-all t c = let s = c .before .before .before .before .before .before .before .before .before .before .before .before .before .before .before .before .before in let a = s .args in let q = s .pre .1 in
+step-add-all t c =
+    let s = c .before .before .before .before .before .before .before .before .before .before .before .before .before .before .before .before .before in let a = s .args in let q = s .pre .1 in
     let e6 : length (a .head .exponents) ≡ 6 = search needs in
     let S = q .7 .3 in
     let f = few (q .7 .0) (q .7 .1) (q .7 .2) (a .head .n) (a .rest) (a .rows) (a .head .exponents) (a .room) (a .a) (a .work .now) (a .out .now) (a .w) S (q .0 .variables) (omega (arith, q .0 .six)) (table-wide (q .0)) (q .0 .holds) in
@@ -762,7 +779,8 @@ step-sub-level : (t : ℕ) → step-lts.Need-sub-level (
   compact-reads.Asked,
   compact-reads.Learnt,
 ) (step-at t) step.Post
-step-sub-level t c = let s = c .before .before .before .before .before .before .before .before .before .before .before .before .before .before .before .before .before in let a = s .args in let q = s .pre .1 in
+step-sub-level t c =
+    let s = c .before .before .before .before .before .before .before .before .before .before .before .before .before .before .before .before .before in let a = s .args in let q = s .pre .1 in
     let e6 : length (a .head .exponents) ≡ 6 = search needs in
     let S = q .7 .3 in
     let f = few (q .7 .0) (q .7 .1) (q .7 .2) (a .head .n) (a .rest) (a .rows) (a .head .exponents) (a .room) (a .a) (a .work .now) (a .out .now) (a .w) S (q .0 .variables) (omega (arith, q .0 .six)) (table-wide (q .0)) (q .0 .holds) in
@@ -781,7 +799,8 @@ step-part-level-start : (t : ℕ) → step-lts.Need-part-level-start (
   compact-reads.Asked,
   compact-reads.Learnt,
 ) (step-at t) step.Post
-step-part-level-start t c = let s = c .before .before .before .before .before .before .before .before .before .before .before .before .before .before .before .before .before in let a = s .args in let q = s .pre .1 in
+step-part-level-start t c =
+    let s = c .before .before .before .before .before .before .before .before .before .before .before .before .before .before .before .before .before in let a = s .args in let q = s .pre .1 in
     let e6 : length (a .head .exponents) ≡ 6 = search needs in
     let S = q .7 .3 in
     let f = few (q .7 .0) (q .7 .1) (q .7 .2) (a .head .n) (a .rest) (a .rows) (a .head .exponents) (a .room) (a .a) (a .work .now) (a .out .now) (a .w) S (q .0 .variables) (omega (arith, q .0 .six)) (table-wide (q .0)) (q .0 .holds) in
@@ -814,7 +833,8 @@ step-mul-level : (t : ℕ) → step-lts.Need-mul-level (
   compact-reads.Asked,
   compact-reads.Learnt,
 ) (step-at t) step.Post
-step-mul-level t c = let s = c .before .before .before .before .before .before .before .before .before .before .before .before .before .before .before .before .before .before in let a = s .args in let q = s .pre .1 in
+step-mul-level t c =
+    let s = c .before .before .before .before .before .before .before .before .before .before .before .before .before .before .before .before .before .before in let a = s .args in let q = s .pre .1 in
     let e6 : length (a .head .exponents) ≡ 6 = search needs in
     let S = q .7 .3 in
     let f = few (q .7 .0) (q .7 .1) (q .7 .2) (a .head .n) (a .rest) (a .rows) (a .head .exponents) (a .room) (a .a) (a .work .now) (a .out .now) (a .w) S (q .0 .variables) (omega (arith, q .0 .six)) (table-wide (q .0)) (q .0 .holds) in
@@ -833,7 +853,8 @@ step-sub-level-2 : (t : ℕ) → step-lts.Need-sub-level-2 (
   compact-reads.Asked,
   compact-reads.Learnt,
 ) (step-at t) step.Post
-step-sub-level-2 t c = let s = c .before .before .before .before .before .before .before .before .before .before .before .before .before .before .before .before .before .before in let a = s .args in let q = s .pre .1 in
+step-sub-level-2 t c =
+    let s = c .before .before .before .before .before .before .before .before .before .before .before .before .before .before .before .before .before .before in let a = s .args in let q = s .pre .1 in
     let e6 : length (a .head .exponents) ≡ 6 = search needs in
     let S = q .7 .3 in
     let f = few (q .7 .0) (q .7 .1) (q .7 .2) (a .head .n) (a .rest) (a .rows) (a .head .exponents) (a .room) (a .a) (a .work .now) (a .out .now) (a .w) S (q .0 .variables) (omega (arith, q .0 .six)) (table-wide (q .0)) (q .0 .holds) in
@@ -852,7 +873,8 @@ step-part-level-start-2 : (t : ℕ) → step-lts.Need-part-level-start-2 (
   compact-reads.Asked,
   compact-reads.Learnt,
 ) (step-at t) step.Post
-step-part-level-start-2 t c = let s = c .before .before .before .before .before .before .before .before .before .before .before .before .before .before .before .before .before .before in let a = s .args in let q = s .pre .1 in
+step-part-level-start-2 t c =
+    let s = c .before .before .before .before .before .before .before .before .before .before .before .before .before .before .before .before .before .before in let a = s .args in let q = s .pre .1 in
     let e6 : length (a .head .exponents) ≡ 6 = search needs in
     let S = q .7 .3 in
     let f = few (q .7 .0) (q .7 .1) (q .7 .2) (a .head .n) (a .rest) (a .rows) (a .head .exponents) (a .room) (a .a) (a .work .now) (a .out .now) (a .w) S (q .0 .variables) (omega (arith, q .0 .six)) (table-wide (q .0)) (q .0 .holds) in
@@ -899,7 +921,8 @@ step-level-requires : (t : ℕ) → step-lts.Need-level-requires (
   compact-reads.Asked,
   compact-reads.Learnt,
 ) (step-at t) step.Post
-step-level-requires t c κs = let s = c .before .before .before .before .before .before .before .before .before .before .before .before .before .before .before .before .before .before .before .before in let a = s .args in let q = s .pre .1 in
+step-level-requires t c κs =
+    let s = c .before .before .before .before .before .before .before .before .before .before .before .before .before .before .before .before .before .before .before .before in let a = s .args in let q = s .pre .1 in
     let e6 : length (a .head .exponents) ≡ 6 = search needs in
     let S = q .7 .3 in
     let f = few (q .7 .0) (q .7 .1) (q .7 .2) (a .head .n) (a .rest) (a .rows) (a .head .exponents) (a .room) (a .a) (a .work .now) (a .out .now) (a .w) S (q .0 .variables) (omega (arith, q .0 .six)) (table-wide (q .0)) (q .0 .holds) in
@@ -968,7 +991,8 @@ step-returns-3 : (t : ℕ) → step-lts.Need-returns-3 (
   compact-reads.Asked,
   compact-reads.Learnt,
 ) (step-at t) step.Post
-step-returns-3 t c = let s = c .before .before .before .before .before .before .before .before .before .before .before .before .before .before .before .before .before .before .before .before .before .before .before .before .before .before .before .before in let a = s .args in let q = s .pre .1 in
+step-returns-3 t c =
+    let s = c .before .before .before .before .before .before .before .before .before .before .before .before .before .before .before .before .before .before .before .before .before .before .before .before .before .before .before .before in let a = s .args in let q = s .pre .1 in
     let e6 : length (a .head .exponents) ≡ 6 = search needs in
     let g = tails-wide (q .0) in
     let k = c .before .before .before .before .before .before .before .before .before .before .before .before .before .before .before .before .before .before .before .before .before .take-tails in
@@ -1057,7 +1081,8 @@ step-returns-4 : (t : ℕ) → step-lts.Need-returns-4 (
   compact-reads.Asked,
   compact-reads.Learnt,
 ) (step-at t) step.Post
-step-returns-4 t c = let s = c .before .before .before .before .before .before .before .before .before .before .before .before .before .before .before .before .before .before .before .before .before .before .before .before .before .before .before .before .before in let a = s .args in let q = s .pre .1 in
+step-returns-4 t c =
+    let s = c .before .before .before .before .before .before .before .before .before .before .before .before .before .before .before .before .before .before .before .before .before .before .before .before .before .before .before .before .before in let a = s .args in let q = s .pre .1 in
     let e6 : length (a .head .exponents) ≡ 6 = search needs in
     let g = tails-wide (q .0) in
     let k = c .before .before .before .before .before .before .before .before .before .before .before .before .before .before .before .before .before .before .before .before .before .before .take-tails in
@@ -1101,7 +1126,8 @@ step-compact-requires : (t : ℕ) → step-lts.Need-compact-requires (
   compact-reads.Asked,
   compact-reads.Learnt,
 ) (step-at t) step.Post
-step-compact-requires t c κs = let s = c .before .before .before .before .before .before .before .before .before .before .before .before .before .before .before .before .before .before .before .before .before .before .before .before .before .before .before .before .before .before .before in let a = s .args in let q = s .pre .1 in
+step-compact-requires t c κs =
+    let s = c .before .before .before .before .before .before .before .before .before .before .before .before .before .before .before .before .before .before .before .before .before .before .before .before .before .before .before .before .before .before .before in let a = s .args in let q = s .pre .1 in
     let e6 : length (a .head .exponents) ≡ 6 = search needs in
     let S = q .7 .3 in
     let f = few (q .7 .0) (q .7 .1) (q .7 .2) (a .head .n) (a .rest) (a .rows) (a .head .exponents) (a .room) (a .a) (a .work .now) (a .out .now) (a .w) S (q .0 .variables) (omega (arith, q .0 .six)) (table-wide (q .0)) (q .0 .holds) in
@@ -1186,7 +1212,8 @@ step-returns-5 : (t : ℕ) → step-lts.Need-returns-5 (
   compact-reads.Asked,
   compact-reads.Learnt,
 ) (step-at t) step.Post
-step-returns-5 t c = let s = c .before .before .before .before .before .before .before .before .before .before .before .before .before .before .before .before .before .before .before .before .before .before .before .before .before .before .before .before .before .before .before .before .before .before in let a = s .args in let q = s .pre .1 in
+step-returns-5 t c =
+    let s = c .before .before .before .before .before .before .before .before .before .before .before .before .before .before .before .before .before .before .before .before .before .before .before .before .before .before .before .before .before .before .before .before .before .before in let a = s .args in let q = s .pre .1 in
     let e6 : length (a .head .exponents) ≡ 6 = search needs in
     let g = tails-wide (q .0) in
     let k = c .before .before .before .before .before .before .before .before .before .before .before .before .before .before .before .before .before .before .before .before .before .before .before .before .before .before .before .take-tails in

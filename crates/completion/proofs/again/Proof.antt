@@ -1,8 +1,8 @@
+-- `again` meets its contract. A copy of the rows, and one column of it set.
 use Rattle.completion.proofs.CodeBytes.{rows-before}
 use Rattle.completion.proofs.CodeRows.{again-rows}
 use native.Mathlib.Omega.{arith}
 use Prim.Native.Nat.{_+_}
-use denote.Ref.{now}
 use borrow.Author.Needs.{needs}
 use Rattle.completion.proofs.again.Statement.{statement}
 use Rattle.completion.proofs.again.Tie as tie

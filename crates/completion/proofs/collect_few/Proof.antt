@@ -1,9 +1,9 @@
-use lib.ListN.{length-replicate}
+-- `collect_few` meets its contract. The table is copied and the recursion called at no rows written.
+use lib.ListN.{length-replicate, length, replicate}
 use Rattle.completion.proofs.CodeOperation.{collect-roomy, collected, copied-fits, links-fit}
 use native.Mathlib.Omega.{arith}
 use mathlib.Core.Path.{_≡_}
 use Prim.Native.Nat.{ℕ, _*_, _≤_}
-use lib.ListN.{length, replicate}
 use borrow.Author.Needs.{needs}
 use Rattle.completion.proofs.collect_few.Statement.{statement}
 use Rattle.completion.proofs.collect_few.Tie as tie
@@ -15,7 +15,8 @@ mul-copy-from : tie.Need-mul-copy-from
 mul-copy-from c = search needs
 
 copy-from-requires : tie.Need-copy-from-requires
-copy-from-requires c κs = let s = c .before .before .before in let a = s .args in let p = s .pre .0 in
+copy-from-requires c κs =
+    let s = c .before .before .before in let a = s .args in let p = s .pre .0 in
     let l : length (replicate {A = ℕ} 2100 0) ≡ 2100 = length-replicate {A = ℕ} 2100 0 in
     let f = copied-fits p 2100 (omega (arith, s .pre .1)) in
     (omega arith, omega (arith, p .whole))
@@ -30,7 +31,8 @@ sub-level : tie.Need-sub-level
 sub-level c = search needs
 
 level-requires : tie.Need-level-requires
-level-requires c κs = let s = c .before .before .before .before .before .before .before .before in let a = s .args in let p = s .pre .0 in
+level-requires c κs =
+    let s = c .before .before .before .before .before .before .before .before in let a = s .args in let p = s .pre .0 in
     let l : length (replicate {A = ℕ} 2100 0) ≡ 2100 = length-replicate {A = ℕ} 2100 0 in
     let k : length (replicate {A = ℕ} 500 0) ≡ 500 = length-replicate {A = ℕ} 500 0 in
     let m : a .rows * 21 ≤ 2100 = omega (arith, s .pre .1) in
@@ -41,7 +43,8 @@ same-length : tie.Need-same-length
 same-length c = search needs
 
 returns : tie.Need-returns
-returns c = let s = c .before .before .before .before .before .before .before .before .before .before .before .before .before in let a = s .args in let p = s .pre .0 in
+returns c =
+    let s = c .before .before .before .before .before .before .before .before .before .before .before .before .before in let a = s .args in let p = s .pre .0 in
     let l : length (replicate {A = ℕ} 2100 0) ≡ 2100 = length-replicate {A = ℕ} 2100 0 in
     let f = copied-fits p 2100 (omega (arith, s .pre .1)) in
     collected p (replicate {A = ℕ} 6 0) (replicate {A = ℕ} 2100 0) (c .before .before .before .before .before .before .before .before .before .copy-from .last .0) _ _ (c .before .before .before .before .level .result) (omega arith) (c .before .before .before .before .before .before .before .before .before .copy-from .kept .0) (c .before .before .before .before .before .before .before .before .before .copy-from .ensures) (c .before .before .before .before .level .ensures)

@@ -1,18 +1,16 @@
-use mathlib.Core.List.{append-nil}
-use Rattle.completion.proofs.CodeBytes.{times-large}
-use mathlib.Core.List.{map}
-use Rattle.terms.specs.Rows.{flat, firstRows}
+-- `compact` meets its contract. The last exponents of the first i rows are written.
 use Rattle.terms.proofs.RowsLaws.{row-fits}
+use mathlib.Core.List.{append-nil, map, _++_}
+use Rattle.completion.proofs.CodeBytes.{times-large}
+use lib.ListN.{length, take, drop}
+use Rattle.terms.specs.Rows.{flat, firstRows}
 use Rattle.completion.specs.Slices.{at}
 use Rattle.completion.specs.Code.{part}
 use Rattle.completion.proofs.CodeRows.{compact-more}
 use borrow.Author.Needs.{needs}
 use native.Mathlib.Omega.{arith}
 use mathlib.Core.Path.{_≡_, refl, sym, _∙_}
-use mathlib.Core.List.{_++_}
 use Prim.Native.Nat.{_+_, _*_, _-_, _≤_}
-use lib.ListN.{length, take, drop}
-use denote.Ref.{now}
 use Rattle.completion.proofs.compact.Statement.{statement}
 use Rattle.completion.proofs.compact.Tie as tie
 

@@ -1,11 +1,10 @@
+-- `complete` meets its contract. The checks 1 to 4, then the recursion into an array of its own, then 8 or one copy to the buffer.
 use Rattle.completion.proofs.OperationLaws.{room-fits}
-use lib.ListN.{length-replicate}
+use lib.ListN.{length-replicate, length, replicate}
 use Rattle.completion.proofs.CodeBytes.{rows-fewer}
 use Rattle.completion.proofs.CodeOperation.{complete-early, passed, collect-asks, complete-full, complete-done}
 use native.Mathlib.Omega.{arith}
 use Prim.Native.Nat.{ℕ}
-use lib.ListN.{length, replicate}
-use denote.Ref.{now}
 use borrow.Author.Needs.{needs}
 use Rattle.completion.proofs.complete.Statement.{statement}
 use Rattle.completion.proofs.complete.Tie as tie
@@ -40,8 +39,8 @@ returns-2 c = let s = c .before .before .before .before .before .before .before 
     let p = passed (a .n) (a .table .now) (a .buffer .now) (c .before .before .before .before .before .before .table-refusal .result) (c .before .before .before .before .before .before .table-refusal .ensures) (c .before .before .before .before .before .if1 .left) in
     complete-full (a .n) (a .table .now) (a .buffer .now) (c .before .before .before .before .before .before .table-refusal .result) (c .before .before .before .before .before .before .table-refusal .ensures) (c .before .before .before .before .before .if1 .left) (c .before .before .before .before .room-for .result) (c .before .before .collect .result) _ (c .before .before .before .before .room-for .ensures) (c .before .before .collect .ensures) (c .if2 .taken)
 
-slice-aggregate-copy-from : tie.Need-slice-aggregate-copy-from
-slice-aggregate-copy-from c = search needs
+slice-aggregate-written : tie.Need-slice-aggregate-written
+slice-aggregate-written c = search needs
 
 mul-copy-from : tie.Need-mul-copy-from
 mul-copy-from c = let s = c .before .before .before .before .before .before .before .before .before .before .before in let a = s .args in
@@ -76,7 +75,7 @@ complete-spec =
     slice-aggregate-collect
     collect-requires
     returns-2
-    slice-aggregate-copy-from
+    slice-aggregate-written
     mul-copy-from
     copy-from-requires
     same-length

@@ -1,12 +1,11 @@
+-- `copy_from` meets its contract. The loop has written the first i bytes of the copy.
 use lib.Seq.{paste, paste-zero, length-paste}
-use lib.ListN.{length-drop}
+use lib.ListN.{length-drop, length, drop}
 use Rattle.completion.proofs.CodeBytes.{copied-from-more}
 use borrow.Author.Needs.{needs}
 use native.Mathlib.Omega.{arith}
 use mathlib.Core.Path.{_≡_, _∙_}
 use Prim.Native.Nat.{_-_, _≤_}
-use lib.ListN.{length, drop}
-use denote.Ref.{now}
 use Rattle.completion.proofs.copy_from.Statement.{statement}
 use Rattle.completion.proofs.copy_from.Tie as tie
 

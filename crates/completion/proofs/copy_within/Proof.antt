@@ -1,12 +1,11 @@
+-- `copy_within` meets its contract. The loop has written the first i bytes of the copy; the bytes that it reads stand before those that it writes.
 use lib.Seq.{paste, paste-zero, length-paste}
-use lib.ListN.{length-drop}
+use lib.ListN.{length-drop, length, drop}
 use Rattle.completion.proofs.CodeBytes.{copied-more}
 use borrow.Author.Needs.{needs}
 use native.Mathlib.Omega.{arith}
 use mathlib.Core.Path.{_≡_, _∙_}
 use Prim.Native.Nat.{_-_, _≤_}
-use lib.ListN.{length, drop}
-use denote.Ref.{now}
 use Rattle.completion.proofs.copy_within.Statement.{statement}
 use Rattle.completion.proofs.copy_within.Tie as tie
 

@@ -1,3 +1,4 @@
+-- `covered` meets its contract. The rows that are left to test decide the whole.
 use Rattle.terms.specs.Ideal.{insideTest}
 use Rattle.completion.specs.Code.{part}
 use Rattle.completion.proofs.CodeBytes.{times-pred, covered-stop, covered-on, covered-end}
@@ -6,7 +7,6 @@ use native.Mathlib.Omega.{arith}
 use mathlib.Core.Path.{_≡_, sym, _∙_}
 use Prim.Native.Nat.{_+_, _*_, _≤_}
 use lib.ListN.{length, take, drop}
-use denote.Ref.{now}
 use Rattle.completion.proofs.covered.Statement.{statement}
 use Rattle.completion.proofs.covered.Tie as tie
 

@@ -1,3 +1,4 @@
+-- `divides_at` meets its contract. The loop goes from the last exponent to the first: what is left to test decides the whole.
 use Rattle.terms.specs.Ideal.{dividesTest}
 use Rattle.completion.proofs.CodeBytes.{pairs, pairs-start, pairs-stop, pairs-on}
 use borrow.Author.Needs.{needs}
@@ -5,7 +6,6 @@ use native.Mathlib.Omega.{arith}
 use mathlib.Core.Path.{_≡_, sym, _∙_}
 use Prim.Native.Nat.{_≤_}
 use lib.ListN.{take, drop}
-use denote.Ref.{now}
 use Rattle.completion.proofs.divides_at.Statement.{statement}
 use Rattle.completion.proofs.divides_at.Tie as tie
 

@@ -1,3 +1,4 @@
+-- `grows` meets its contract. The rows that are left to test decide the whole.
 use Rattle.completion.specs.Slices.{fresh}
 use Rattle.completion.specs.Code.{part}
 use Rattle.completion.proofs.CodeBytes.{times-pred, grows-stop, grows-on, grows-end}
@@ -7,7 +8,6 @@ use native.Mathlib.Omega.{arith}
 use mathlib.Core.Path.{_≡_, sym, _∙_}
 use Prim.Native.Nat.{_+_, _*_, _≤_}
 use lib.ListN.{length}
-use denote.Ref.{now}
 use Rattle.completion.proofs.grows.Statement.{statement}
 use Rattle.completion.proofs.grows.Tie as tie
 

@@ -1,6 +1,8 @@
+-- `repeat` meets its contract. The block stands under each head up to e, and there is room for it.
 use Rattle.terms.proofs.RowsLaws.{length-firstRows}
 use native.Mathlib.Numerals.{add-one}
-use mathlib.Core.List.{append-nil}
+use mathlib.Core.List.{append-nil, _++_}
+use lib.ListN.{length, take, drop}
 use Rattle.terms.specs.Rows.{flat}
 use Rattle.completion.specs.Code.{part, copies}
 use Rattle.completion.proofs.CodeRows.{repeat-more, copies-next, repeat-beyond}
@@ -9,10 +11,7 @@ use Rattle.completion.proofs.CodeBytes.{rows-fewer}
 use borrow.Author.Needs.{needs}
 use native.Mathlib.Omega.{arith}
 use mathlib.Core.Path.{_≡_, refl, sym, _∙_}
-use mathlib.Core.List.{_++_}
 use Prim.Native.Nat.{suc, _+_, _*_, _-_, _≤_}
-use lib.ListN.{length, take, drop}
-use denote.Ref.{now}
 use Rattle.completion.proofs.repeat.Statement.{statement}
 use Rattle.completion.proofs.repeat.Tie as tie
 

@@ -1,3 +1,4 @@
+-- `room_for` meets its contract. The lesser of 4,096 and the whole rows of the buffer.
 use Rattle.completion.proofs.CodeOperation.{room-whole, room-limit}
 use borrow.Author.Needs.{needs}
 use Rattle.completion.proofs.room_for.Statement.{statement}
@@ -7,10 +8,12 @@ div-whole : tie.Need-div-whole
 div-whole c = search needs
 
 returns : tie.Need-returns
-returns c = let s = c .before in room-whole (s .args .n) (s .args .size) (c .if1 .taken)
+returns c =
+    let s = c .before in room-whole (s .args .n) (s .args .size) (c .if1 .taken)
 
 returns-2 : tie.Need-returns-2
-returns-2 c = let s = c .before in room-limit (s .args .n) (s .args .size) (c .if1 .left)
+returns-2 c =
+    let s = c .before in room-limit (s .args .n) (s .args .size) (c .if1 .left)
 
 pub room-for-spec : {M : Type 1} → statement M
 room-for-spec = tie.close (tie.spec div-whole returns returns-2)

@@ -1,3 +1,4 @@
+-- `set_column` meets its contract. The first i rows have the new exponent.
 use Rattle.terms.proofs.RowsLaws.{row-fits}
 use Rattle.completion.proofs.CodeRows.{columned, columned-length, columned-start, columned-take, column-more}
 use Rattle.completion.proofs.CodeBytes.{times-large}
@@ -6,7 +7,6 @@ use native.Mathlib.Omega.{arith}
 use mathlib.Core.Path.{_≡_}
 use Prim.Native.Nat.{_+_, _*_, _-_, _≤_}
 use lib.ListN.{length}
-use denote.Ref.{now}
 use Rattle.completion.proofs.set_column.Statement.{statement}
 use Rattle.completion.proofs.set_column.Tie as tie
 

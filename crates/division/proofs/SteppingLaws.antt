@@ -4,12 +4,11 @@
 --   larger-found     the second of two neighbouring rows of a bracket is the first later row with a larger exponent
 --   read-at          the byte of a variable
 --   reached-end, reached-none   the descent ends: with the row that is left, or with nothing at once
---   reached-next     the descent steps on the next exponent of the group
---   reached-gap      it ends with nothing at an exponent below q's that is not the largest
---   reached-down     it calls for the next variable
---   reached-above, reached-shared   what is known where it goes on so: with the rows above, with the rows that share the exponent
+--   reached-above    what is known where the code goes on with the rows above
+--   stepped-next     stepping along a variable comes to the next exponent
+--   stepped-gap, stepped-down, stepped-shared   it ends with nothing, or calls for the next variable
 --   ready-empty, descent-all, reached-start   the whole table
-use mathlib.Core.Path.{_≡_, sym, subst}
+use mathlib.Core.Path.{_≡_, sym, _∙_, subst}
 use mathlib.Core.List.{[], _∷_}
 use mathlib.Core.Option.{none, some}
 use mathlib.Core.Logic.{by-cases}
@@ -21,9 +20,9 @@ use native.Mathlib.Omega.{arith}
 use lib.ListN.{length, getD}
 use Rattle.terms.specs.Monomials.{Monomial, Table, _!_, rowAt}
 use Rattle.terms.specs.Order.{Ascending}
-use Rattle.division.specs.Descent.{Descent, first, numbersFrom, descend, descent}
+use Rattle.division.specs.Descent.{Descent, first, last, numbersFrom, descend, descent}
 use Rattle.division.proofs.DescentLaws.{descent-empty}
-use Rattle.division.specs.Ranges.{range, GroupRange, FirstLarger, Between, Reached, Ready, after, descendFrom}
+use Rattle.division.specs.Ranges.{range, GroupRange, FirstLarger, Between, Reached, SteppedTo, Ready, after, descendFrom}
 use Rattle.division.proofs.RangeLaws.{range-cons, range-all, ascends-at, range-above, range-shared, range-none, range-next, range-gap, range-down}
 
 -- ---- the search
@@ -92,7 +91,7 @@ module _ {n : ℕ} {G : Table} {q : Monomial} {i lo hi steps : ℕ} (R : Reached
         left = omega (arith, R .left, F .later, F .within);
       }
 
-      pub reached-shared : Reached n G q (i + 1) lo mid (steps + 1)
+      reached-shared : Reached n G q (i + 1) lo mid (steps + 1)
       reached-shared = record {
         ascends = R .ascends;
         limited = R .limited;
@@ -103,21 +102,47 @@ module _ {n : ℕ} {G : Table} {q : Monomial} {i lo hi steps : ℕ} (R : Reached
       }
 
       module _ (under : rowAt G lo ! i ≤ q ! i) where
-        pub reached-next : mid < hi → rowAt G mid ! i ≤ q ! i → after (steps + 1) (descendFrom n G q i mid hi) ≡ after steps (descendFrom n G q i lo hi)
+        reached-next : mid < hi → rowAt G mid ! i ≤ q ! i → after (steps + 1) (descendFrom n G q i mid hi) ≡ after steps (descendFrom n G q i lo hi)
         reached-next l h =
             rw (left-here) (after-one steps (descend G q (suc (n - i)) i (range lo hi)) (descend G q (suc (n - i)) i (range mid hi))
             (range-next (R .ascends) (R .group) q (n - i) F under l h))
 
-        pub reached-gap : mid < hi → q ! i < rowAt G mid ! i → rowAt G lo ! i < q ! i
+        reached-gap : mid < hi → q ! i < rowAt G mid ! i → rowAt G lo ! i < q ! i
             → record { found = none; steps = steps + 1; ended = i } ≡ after steps (descendFrom n G q i lo hi)
         reached-gap l h g = rw (left-here, range-gap (R .ascends) (R .group) q (n - i) F under l h g)
 
-        pub reached-down : (mid < hi → q ! i < rowAt G mid ! i) → (mid < hi → q ! i ≤ rowAt G lo ! i)
+        reached-down : (mid < hi → q ! i < rowAt G mid ! i) → (mid < hi → q ! i ≤ rowAt G lo ! i)
             → after (steps + 1) (descendFrom n G q (i + 1) lo mid) ≡ after steps (descendFrom n G q i lo hi)
         reached-down h g =
             let e : suc n - (i + 1) ≡ n - i = omega arith in
             rw (e, add-one i, left-here) (after-one steps (descend G q (suc (n - i)) i (range lo hi)) (descend G q (n - i) (suc i) (range lo mid))
             (range-down (R .ascends) (R .group) q (n - i) F under h g))
+
+-- ---- stepping along one variable
+
+module _ {n : ℕ} {G : Table} {q : Monomial} {i lo hi steps low high taken : ℕ} (within : i ≤ n) (S : SteppedTo n G q i lo hi steps low high taken) where
+  -- the next exponent, which does not exceed q's
+  pub stepped-next : {more : ℕ} → high < hi → rowAt G high ! i ≤ q ! i → FirstLarger G i high hi more → SteppedTo n G q i lo hi steps high more (taken + 1)
+  stepped-next l u F = record {
+    reached = reached-above (S .reached) within (S .last) l;
+    under = u;
+    last = F;
+    from = omega (arith, S .from, S .last .later);
+    same = reached-next (S .reached) within (S .last) (S .under) l u ∙ S .same;
+  }
+
+  -- the last exponent is below q's and not the largest
+  pub stepped-gap : high < hi → q ! i < rowAt G high ! i → rowAt G low ! i < q ! i
+      → record { found = none; steps = taken + 1; ended = i } ≡ after steps (descendFrom n G q i lo hi)
+  stepped-gap l b g = reached-gap (S .reached) within (S .last) (S .under) l b g ∙ S .same
+
+  -- it is q's or the largest
+  pub stepped-down : (high < hi → q ! i < rowAt G high ! i) → (high < hi → q ! i ≤ rowAt G low ! i)
+      → after (taken + 1) (descendFrom n G q (i + 1) low high) ≡ after steps (descendFrom n G q i lo hi)
+  stepped-down b g = reached-down (S .reached) within (S .last) (S .under) b g ∙ S .same
+
+  pub stepped-shared : Reached n G q (i + 1) low high (taken + 1)
+  stepped-shared = reached-shared (S .reached) within (S .last)
 
 -- ---- the whole table
 

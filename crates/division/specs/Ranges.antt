@@ -8,6 +8,9 @@
 --   after s d        the descent d, with s steps taken before it
 --   descendFrom n G q i lo hi   rule 6 from variable i on, in the group of the rows lo to before hi
 --   Reached n G q i lo hi steps   what the code knows where it goes on so: the rows ascend, those are a group, and few steps are left
+--   SteppedTo n G q i lo hi steps low high taken   stepping along variable i has come to the exponent of the rows low to before high,
+--                    with `taken` steps before it, and what is left of the descent is the same
+--   LastStep ..      the same, and that is the last exponent stepped on: the next one exceeds q's
 --   Ready n G        what is known of a table that passed the checks 1 to 3 and 6
 --   descended d      the descent d as the record that the code gives
 use mathlib.Core.Path.{_≡_}
@@ -64,6 +67,17 @@ pub record Reached (n : ℕ) (G : Table) (q : Monomial) (i lo hi steps : ℕ) : 
   pub sized : length q ≡ n
   pub variable : 0 < i
   pub left : steps + (hi - lo) + (suc n - i) ≤ 4102
+
+pub record SteppedTo (n : ℕ) (G : Table) (q : Monomial) (i lo hi steps low high taken : ℕ) : Type 0 where
+  pub reached : Reached n G q i low hi taken
+  pub under : rowAt G low ! i ≤ q ! i
+  pub last : FirstLarger G i low hi high
+  pub from : lo ≤ low
+  pub same : after taken (descendFrom n G q i low hi) ≡ after steps (descendFrom n G q i lo hi)
+
+pub record LastStep (n : ℕ) (G : Table) (q : Monomial) (i lo hi steps low high taken : ℕ) : Type 0 where
+  pub stepped : SteppedTo n G q i lo hi steps low high taken
+  pub beyond : high < hi → q ! i < rowAt G high ! i
 
 pub record Ready (n : ℕ) (G : Table) : Type 0 where
   pub some : 0 < n

@@ -8,12 +8,13 @@ use terms::table_refusal;
 ghost use mathlib.Core.Path.{_≡_};
 ghost use Prim.Native.Nat.{ℕ, suc, _+_, _*_, _-_, _≤_, _<_};
 ghost use lib.ListN.{length};
+ghost use Rattle.terms.specs.Monomials.{_!_, rowAt};
 ghost use Rattle.terms.specs.Rows.{rows};
 ghost use Rattle.terms.specs.Order.{Ascending};
 ghost use Rattle.terms.specs.Refusals.{refusal};
 ghost use Rattle.division.specs.Descent.{descent};
 ghost use Rattle.division.specs.Operations.{findChecks, FindPromise};
-ghost use Rattle.division.specs.Ranges.{GroupRange, FirstLarger, Searched, Between, Reached, Ready, after, descendFrom, descended};
+ghost use Rattle.division.specs.Ranges.{GroupRange, FirstLarger, Searched, Between, LastStep, Reached, Ready, after, descendFrom, descended};
 
 // What a descent found.
 pub enum Found {
@@ -158,9 +159,55 @@ fn larger_from(
     )
 }
 
-// Steps along the exponents of the group at variable i that do not exceed the query's, and calls for the next variable where
-// the last of them is the query's or the group's largest. The end of the exponent's rows is looked for `near` rows on, as many
-// as the exponent before has.
+// Where stepping along a variable ended: the rows `low` to before `high` have the last exponent stepped on, and `steps`
+// exponents were stepped on before it.
+pub struct Stepped {
+    pub low: RowNumber,
+    pub high: RowNumber,
+    pub steps: usize,
+}
+
+// Steps along the exponents of the group at variable i that do not exceed the query's, of which there is one. Each search
+// starts where the rows of the exponent would end if they were as many as those of the one before.
+fn along(
+    table: &[u8],
+    n: usize,
+    query: &[u8],
+    i: Variable,
+    lo: RowNumber,
+    hi: RowNumber,
+    steps: usize,
+) -> Stepped
+    requires { ⌜ (i .0 ≤ n) × Reached n (rows n (now table)) (now query) (i .0) (lo .0) (hi .0) steps × (rowAt (rows n (now table)) (lo .0) ! (i .0) ≤ now query ! (i .0)) ⌝ }
+    ensures { λ r. ⌜ LastStep n (rows n (now (table .entry))) (now (query .entry)) (i .0) (lo .0) (hi .0) steps (r .low .0) (r .high .0) (r .steps) ⌝ }
+{
+    let variable = i.0;
+    let most = query[variable - 1];
+    let end = hi.0;
+    let mut low = lo.0;
+    let mut taken = steps;
+    let mut high = larger_from(table, n, i, lo, hi, 1).0;
+    while high < end {
+        if most < exponent(table, n, RowNumber(high), i) {
+            return Stepped {
+                low: RowNumber(low),
+                high: RowNumber(high),
+                steps: taken,
+            };
+        }
+        let near = high - low;
+        low = high;
+        taken += 1;
+        high = larger_from(table, n, i, RowNumber(low), RowNumber(end), near).0;
+    }
+    Stepped {
+        low: RowNumber(low),
+        high: RowNumber(high),
+        steps: taken,
+    }
+}
+
+// Steps along variable i, and calls for the next variable where the last exponent stepped on is the query's or the group's largest.
 fn step(
     table: &[u8],
     n: usize,
@@ -169,35 +216,33 @@ fn step(
     lo: RowNumber,
     hi: RowNumber,
     steps: usize,
-    near: usize,
 ) -> Descended
-    requires { ⌜ (i .0 ≤ n) × Reached n (rows n (now table)) (now query) (i .0) (lo .0) (hi .0) steps × (0 < near) ⌝ }
+    requires { ⌜ (i .0 ≤ n) × Reached n (rows n (now table)) (now query) (i .0) (lo .0) (hi .0) steps ⌝ }
     ensures { λ r. ⌜ r ≡ descended (after steps (descendFrom n (rows n (now (table .entry))) (now (query .entry)) (i .0) (lo .0) (hi .0))) ⌝ }
 {
     let variable = i.0;
     let most = query[variable - 1];
-    let least = exponent(table, n, lo, i);
-    if most < least {
+    if most < exponent(table, n, lo, i) {
         return Descended {
             found: Found::Nothing,
             steps,
             ended: i,
         };
     }
-    let next = larger_from(table, n, i, lo, hi, near);
-    if next.0 < hi.0 {
-        if exponent(table, n, next, i) <= most {
-            return step(table, n, query, i, next, hi, steps + 1, next.0 - lo.0);
-        }
-        if least < most {
+    let last = along(table, n, query, i, lo, hi, steps);
+    let low = last.low;
+    let high = last.high;
+    let taken = last.steps + 1;
+    if high.0 < hi.0 {
+        if exponent(table, n, low, i) < most {
             return Descended {
                 found: Found::Nothing,
-                steps: steps + 1,
+                steps: taken,
                 ended: i,
             };
         }
     }
-    descend(table, n, query, Variable(variable + 1), lo, next, steps + 1)
+    descend(table, n, query, Variable(variable + 1), low, high, taken)
 }
 
 // Takes variable i, or finds the row that is left after the last.
@@ -220,7 +265,7 @@ fn descend(
             ended: Variable(0),
         };
     }
-    step(table, n, query, i, lo, hi, steps, 1)
+    step(table, n, query, i, lo, hi, steps)
 }
 
 // The descent for the query in the whole table, without the checks (rule 6).

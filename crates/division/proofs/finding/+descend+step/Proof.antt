@@ -1,6 +1,6 @@
 -- Stepping along a variable calls for the next variable, which calls for stepping again. The measure: the rows left, which bound the exponents left, plus
--- the variables left. They fall where `step` calls itself for the next exponent and `descend` for the next variable; `descend` calls `step` with the
--- same, so it counts one more. Each return is a law of rule 6 over ranges: reached-end, reached-none, reached-next, reached-gap, reached-down.
+-- the variables left. They fall at the call for the next variable; `descend` calls `step` with the same, so it counts one more.
+-- Each return is a law of rule 6 over ranges: reached-end, reached-none, stepped-gap, stepped-down.
 use borrow.Author.Needs.{needs}
 use native.Mathlib.Omega.{arith}
 use mathlib.Core.Path.{ap, _∙_}
@@ -10,14 +10,14 @@ use denote.Ref.{now}
 use borrow.Fn.Kinds.{In}
 use borrow.Fn.PlainCycle.{Measures, is, falls, and}
 use Rattle.division.specs.Ranges.{descended}
-use Rattle.division.proofs.SteppingLaws.{read-at, reached-end, reached-none, reached-above, reached-shared, reached-next, reached-gap, reached-down}
+use Rattle.division.proofs.SteppingLaws.{read-at, reached-end, reached-none, stepped-gap, stepped-down, stepped-shared}
 use Rattle.division.proofs.finding.descend.Reads as descend
 use Rattle.division.proofs.finding.descend.Kinds as descend-kinds
 use Rattle.division.proofs.finding.+descend+step.Lts-descend as descend-lts
 use Rattle.division.proofs.finding.step.Reads as step
 use Rattle.division.proofs.finding.step.Kinds as step-kinds
 use Rattle.division.proofs.finding.+descend+step.Lts-step as step-lts
-use Rattle.division.proofs.finding.larger_from.Reads as larger-from-reads
+use Rattle.division.proofs.finding.along.Reads as along-reads
 use Rattle.terms.proofs.exponent.Reads as exponent-reads
 use Rattle.division.proofs.finding.+descend+step.{statement}
 use Rattle.division.proofs.finding.+descend+step.Tie.{close}
@@ -44,10 +44,8 @@ abbrev claims : ℕ → step-lts.Claims
 claims t = (
   exponent-reads.Asked,
   exponent-reads.Learnt,
-  larger-from-reads.Asked,
-  larger-from-reads.Learnt,
-  step-below t,
-  step.Post,
+  along-reads.Asked,
+  along-reads.Learnt,
   descend-below t,
   descend.Post,
 )
@@ -82,69 +80,49 @@ step-returns t c =
     let e = read-at (a .query .now) (a .i .0) (s .pre .1 .1 .variable) in
     ap descended (reached-none (s .pre .1 .1) (s .pre .1 .0) (omega (arith, e, c .if1 .taken, c .before .exponent .ensures)))
 
-step-larger-from-requires : (t : ℕ) → step-lts.Need-larger-from-requires (claims t) (step-at t) step.Post
-step-larger-from-requires t c κs = search needs
+step-along-requires : (t : ℕ) → step-lts.Need-along-requires (claims t) (step-at t) step.Post
+step-along-requires t c κs =
+    let s = c .before .before .before .before .before in
+    let a = s .args in
+    let e = read-at (a .query .now) (a .i .0) (s .pre .1 .1 .variable) in
+    (s .pre .1 .0, s .pre .1 .1, omega (arith, e, c .if1 .left, c .before .exponent .ensures))
+
+step-add-taken : (t : ℕ) → step-lts.Need-add-taken (claims t) (step-at t) step.Post
+step-add-taken t c = search needs
 
 step-exponent-requires-2 : (t : ℕ) → step-lts.Need-exponent-requires-2 (claims t) (step-at t) step.Post
 step-exponent-requires-2 t c κs = search needs
-
-step-add-step : (t : ℕ) → step-lts.Need-add-step (claims t) (step-at t) step.Post
-step-add-step t c = search needs
-
-step-sub-step : (t : ℕ) → step-lts.Need-sub-step (claims t) (step-at t) step.Post
-step-sub-step t c = search needs
-
--- the next exponent
-step-step-requires : (t : ℕ) → step-lts.Need-step-requires (claims t) (step-at t) step.Post
-step-step-requires t c κs =
-    let s = c .before .before .before .before .before .before .before .before .before .before .before .before .before in
-    let f = c .before .before .before .before .before .before .before .larger-from .ensures in
-    (omega (arith, f .later, f .within), (s .pre .1 .0, reached-above (s .pre .1 .1) (s .pre .1 .0) f (omega arith), omega (arith, f .later)))
 
 step-returns-2 : (t : ℕ) → step-lts.Need-returns-2 (claims t) (step-at t) step.Post
 step-returns-2 t c =
     let s = c .before .before .before .before .before .before .before .before .before .before .before .before .before .before in
     let a = s .args in
     let e = read-at (a .query .now) (a .i .0) (s .pre .1 .1 .variable) in
-    let f = c .before .before .before .before .before .before .before .before .larger-from .ensures in
-    let g = c .before .before .before .before .before .before .before .before .before in
-    c .step .ensures ∙ ap descended (reached-next (s .pre .1 .1) (s .pre .1 .0) f (omega (arith, e, g .if1 .left, g .before .exponent .ensures)) (omega arith)
-    (omega (arith, e, c .before .before .before .if3 .taken, c .before .before .before .before .exponent2 .ensures)))
+    let w = c .before .before .before .before .before .before .before .before .along in
+    let x = w .result in
+    let l : x .high .0 < a .hi .0 = omega (arith, c .before .before .if2 .taken) in
+    ap descended (stepped-gap (s .pre .1 .0) (w .ensures .stepped) l (w .ensures .beyond l) (omega (arith, e, c .if3 .taken, c .before .exponent2 .ensures)))
 
-step-add-t23 : (t : ℕ) → step-lts.Need-add-t23 (claims t) (step-at t) step.Post
-step-add-t23 t c = search needs
+step-add-t14 : (t : ℕ) → step-lts.Need-add-t14 (claims t) (step-at t) step.Post
+step-add-t14 t c = search needs
+
+step-descend-requires : (t : ℕ) → step-lts.Need-descend-requires (claims t) (step-at t) step.Post
+step-descend-requires t c κs =
+    let s = c .before .before .before .before .before .before .before .before .before .before .before .before in
+    let w = c .before .before .before .before .before .before .along in
+    let m = s .pre .0 in (
+      omega (arith, w .ensures .stepped .from, w .ensures .stepped .last .later, w .ensures .stepped .last .within),
+      (omega (arith, s .pre .1 .0), stepped-shared (s .pre .1 .0) (w .ensures .stepped)),
+    )
 
 step-returns-3 : (t : ℕ) → step-lts.Need-returns-3 (claims t) (step-at t) step.Post
 step-returns-3 t c =
-    let s = c .before .before .before .before .before .before .before .before .before .before .before .before in
+    let s = c .before .before .before .before .before .before .before .before .before .before .before .before .before in
     let a = s .args in
     let e = read-at (a .query .now) (a .i .0) (s .pre .1 .1 .variable) in
-    let f = c .before .before .before .before .before .before .larger-from .ensures in
-    ap descended (reached-gap (s .pre .1 .1) (s .pre .1 .0) f (omega arith) (omega arith) (omega arith) (omega arith))
-
-step-add-t13 : (t : ℕ) → step-lts.Need-add-t13 (claims t) (step-at t) step.Post
-step-add-t13 t c = search needs
-
-step-add-descend : (t : ℕ) → step-lts.Need-add-descend (claims t) (step-at t) step.Post
-step-add-descend t c = search needs
-
--- the next variable
-step-descend-requires : (t : ℕ) → step-lts.Need-descend-requires (claims t) (step-at t) step.Post
-step-descend-requires t c κs =
-    let s = c .before .before .before .before .before .before .before .before .before in
-    let f = c .before .before .before .larger-from .ensures in
-    (omega (arith, f .later, f .within), (omega arith, reached-shared (s .pre .1 .1) (s .pre .1 .0) f))
-
-step-returns-4 : (t : ℕ) → step-lts.Need-returns-4 (claims t) (step-at t) step.Post
-step-returns-4 t c =
-    let s = c .before .before .before .before .before .before .before .before .before .before in
-    let a = s .args in
-    let e = read-at (a .query .now) (a .i .0) (s .pre .1 .1 .variable) in
-    let f = c .before .before .before .before .larger-from .ensures in
-    let g = c .before .before .before .before .before in
-    c .descend .ensures ∙ ap descended (reached-down (s .pre .1 .1) (s .pre .1 .0) f (omega (arith, e, g .if1 .left, g .before .exponent .ensures))
-    (λ l. ⊎-elim (λ w. omega (arith, e, w .2 .left, w .1 .ensures)) (λ w. omega (arith, w .left)) (c .before .if2 .came))
-    (λ l. ⊎-elim (λ w. omega (arith, e, w .3 .left, g .before .exponent .ensures)) (λ w. omega (arith, w .left)) (c .before .if2 .came)))
+    let w = c .before .before .before .before .before .before .before .along in
+    c .descend .ensures ∙ ap descended (stepped-down (s .pre .1 .0) (w .ensures .stepped) (w .ensures .beyond)
+    (λ l. ⊎-elim (λ y. omega (arith, e, y .2 .left, y .1 .ensures)) (λ y. omega (arith, y .left)) (c .before .if2 .came)))
 
 pub +descend+step-spec : {M : Type 1} → statement M
 +descend+step-spec =
@@ -165,15 +143,10 @@ pub +descend+step-spec : {M : Type 1} → statement M
     (step-shared-slice-read-most t)
     (step-exponent-requires t)
     (step-returns t)
-    (step-larger-from-requires t)
+    (step-along-requires t)
+    (step-add-taken t)
     (step-exponent-requires-2 t)
-    (step-add-step t)
-    (step-sub-step t)
-    (step-step-requires t)
     (step-returns-2 t)
-    (step-add-t23 t)
-    (step-returns-3 t)
-    (step-add-t13 t)
-    (step-add-descend t)
+    (step-add-t14 t)
     (step-descend-requires t)
-    (step-returns-4 t)
+    (step-returns-3 t)

@@ -5,6 +5,8 @@
 use mathlib.Core.Path.{_≡_, refl, sym, ap, _∙_, subst}
 use mathlib.Core.List.{List, [], _∷_, _++_, List·Memᴰ·head, List·Memᴰ·tail, Memᴰ·append-left}
 use mathlib.Core.Logic.{by-cases, _↔_}
+use mathlib.Core.Option.{Option, some}
+use denote.Ref.{now}
 use Prim.Native.Nat.{ℕ, _+_, _*_, _/_, _%_, _^_, _≤_, _<_}
 use native.Mathlib.Nat.{le-trans}
 use native.Mathlib.Decide.{decLt}
@@ -34,7 +36,7 @@ use Rattle.counting.specs.Operations.{CountPromise, countChecks, countNumber, c
 use Rattle.counting.specs.declared.CountAnswer.{CountAnswer}
 use Rattle.terms.specs.Ideal.{Inside}
 use Rattle.division.specs.Cones.{DivisorAt}
-use Rattle.division.specs.Scan.{scan}
+use Rattle.division.specs.Scan.{scan, Answers}
 use Rattle.division.specs.declared.finding.FindAnswer.{FindAnswer}
 use Rattle.division.proofs.JanetLaws.{janet-disjoint, ascending-distinct}
 use Rattle.division.proofs.DescentLaws.{scan-finds, answers-first, answers-unique}
@@ -47,6 +49,9 @@ use Rattle.division.proofs.MarksLaws.{tests-marks, tableMarks-at, length-tableM
 use Rattle.division.proofs.MarkingLaws.{marks-unique, marks-accepts, marks-refuses}
 use lib.ListN.{getD, List·getD-append}
 use lib.Seq.{drop-at}
+use Rattle.bundle.specs.Checks.{openChecks}
+use Rattle.bundle.specs.Operation.{opened}
+use Rattle.bundle.proofs.ReadLaws.{refused-is}
 use Rattle.listing.proofs.PartLaws.{part-front, bundle-parts}
 use Rattle.paper.specs.Demands.{Settled, DemandOne, DemandTwo, DemandThree, ListingDemand, Completion, Marking, OneDivisor}
 use Rattle.paper.proofs.EndToEnd.{count-ideal, flat-accepted, completed-entries}
@@ -75,6 +80,10 @@ complete-leaves n table buffer answer after p l = complete-unique p (complete-re
 marks-leaves : (n : ℕ) (table buffer : List ℕ) (answer : MarksAnswer) (after : List ℕ) → MarksPromise n table buffer answer after → 0 < marksNumber answer → after ≡ buffer
 marks-leaves n table buffer answer after p l = marks-unique p (marks-refuses n table buffer (marksNumber answer) l (p .number)) .1
 
+-- beside the number of a refused table stand 0 and an empty part
+refused-values : {A : Type 0} (b : List ℕ) (j m : ℕ) → m ≡ refusal (openChecks b j) → 0 < m → (x z : A) → opened b j x z ≡ z
+refused-values b j m e l x z = refused-is b j x z m e (λ n. omega arith)
+
 pub demand-one : DemandOne
 demand-one = record {
   marks = λ n table buffer answer after p. (settled _ _ (p .number), marks-leaves n table buffer answer after p);
@@ -85,7 +94,18 @@ demand-one = record {
   count = λ n table s answer p. settled _ _ (p .number);
   polynomial = λ n table s answer p. settled _ _ (p .number);
   steady = λ n table answer p. settled _ _ (p .number);
-  locate = λ bundle j answer p. settled _ _ (p .number);
+  locate = λ bundle j answer p. (
+    settled _ _ (p .number),
+    λ l.
+        let none = refused-values bundle j (answer .refusal) (p .number) l in
+        (p .variables ∙ none _ 0, p .count ∙ none _ 0, p .begins ∙ none _ 0),
+  );
+  opened = λ bundle j answer p. (
+    settled _ _ (p .number),
+    λ l.
+        let none = refused-values (now bundle) j (answer .refusal) (p .number) l in
+        (p .variables ∙ none _ 0, p .count ∙ none _ 0, p .shown ∙ refused-values (now bundle) j (answer .refusal) (p .number) l _ []),
+  );
 }
 
 -- ---- the second demand
@@ -138,6 +158,9 @@ marking-of n table buffer answer after p e = record {
 
 pub demand-two : DemandTwo
 demand-two = record {
+  table = λ n table.
+      let is = completed-table n (rows n table) (rows-size n table) in
+      (completedOf n table, is, λ K other. completed-unique other is);
   marks = marking-of;
   complete = λ n table buffer answer after p e.
       completion-of n table buffer (completeRows answer) after (accepted-promise n table buffer answer after p e);
@@ -196,6 +219,17 @@ module _ (n : ℕ) (table buffer : List ℕ) (k : ℕ) (after : List ℕ) (p : C
             ∙ sym (count-ideal n (rows n table) H (completion-ideal n (rows n table) (rows-size n table) is) s),
       )
 
+-- two divisors of one monomial are one row, since the cones of an ascending table are disjoint
+found-divides : (n : ℕ) (table query : List ℕ) (answer : FindAnswer) → FindPromise n table query answer → findNumber answer ≡ 0
+    → (r : ℕ) → (findRow answer ≡ some r) ↔ DivisorAt Multiplicative (rows n table) r query
+found-divides n table query answer p e r =
+    let z : refusal (findChecks n table query) ≡ 0 = sym (p .number) ∙ e in
+    let G : Table = rows n table in
+    let found = find-finds n table query answer p z in (
+      λ same. subst (λ (o : Option ℕ). Answers Multiplicative G query o) same found,
+      λ d. answers-unique (janet-disjoint (rows-size n table) (ascending-distinct G (find-ready n table query z .ascends))) query (findRow answer) (some r) found d,
+    )
+
 descent-scans : (n : ℕ) (table query : List ℕ) (answer : FindAnswer) → FindPromise n table query answer → findNumber answer ≡ 0
     → (findRow answer ≡ scan (rows n table) query) × (findSteps answer ≤ degree query + n)
 descent-scans n table query answer p e =
@@ -211,6 +245,7 @@ pub demand-three : DemandThree
 demand-three = record {
   one = λ n table buffer answer after p e. one-divisor n table buffer (completeRows answer) after (accepted-promise n table buffer answer after p e);
   none = λ n table buffer answer after p e. no-divisor n table buffer (completeRows answer) after (accepted-promise n table buffer answer after p e);
+  found = found-divides;
   descent = descent-scans;
   count = λ n table buffer answer after p e s l counting c.
       let q = accepted-promise n table buffer answer after p e in

@@ -12,9 +12,11 @@
 --
 -- The contract of each operation is the promise of that name; every function is proved to keep it.
 use mathlib.Core.Path.{_≡_}
-use mathlib.Core.List.{List}
+use mathlib.Core.List.{List, []}
+use mathlib.Core.Option.{some}
 use mathlib.Core.Logic.{_↔_}
 use Prim.Native.Nat.{ℕ, suc, _+_, _*_, _/_, _%_, _^_, _≤_, _<_}
+use denote.Ref.{RefT, now}
 use lib.ListN.{length, take, drop, getD}
 use Rattle.terms.specs.Monomials.{Monomial, Table, _!_, rowAt, degree}
 use Rattle.terms.specs.Ideal.{Inside, SameIdeal}
@@ -33,7 +35,7 @@ use Rattle.completion.specs.Operation.{CompletePromise, completeChecks, complet
 use Rattle.counting.specs.Counts.{countAt}
 use Rattle.counting.specs.Operations.{CountPromise, PolynomialPromise, SteadyPromise, countChecks, steadyChecks, countNumber, countValue, polynomialNumber, steadyNumber}
 use Rattle.bundle.specs.Checks.{openChecks}
-use Rattle.bundle.specs.Operation.{LocatePromise}
+use Rattle.bundle.specs.Operation.{LocatePromise, OpenPromise}
 use Rattle.listing.specs.Operation.{PartPromise}
 use Rattle.listing.specs.Text.{partText, partsText, bundleText}
 use Rattle.completion.specs.declared.CompleteAnswer.{CompleteAnswer}
@@ -42,6 +44,7 @@ use Rattle.counting.specs.declared.CountAnswer.{CountAnswer}
 use Rattle.counting.specs.declared.PolynomialAnswer.{PolynomialAnswer}
 use Rattle.counting.specs.declared.SteadyAnswer.{SteadyAnswer}
 use Rattle.bundle.specs.declared.Located.{Located}
+use Rattle.bundle.specs.declared.OpenedTable.{OpenedTable}
 
 pub record Settled (checks : List Check) (number : ℕ) : Type 1 where
   pub answers : Accepts checks → number ≡ 0
@@ -60,7 +63,10 @@ pub record DemandOne : Type 1 where
   pub polynomial : (n : ℕ) (table : List ℕ) (s : ℕ) (answer : PolynomialAnswer) → PolynomialPromise n table s answer
       → Settled (countChecks n table s) (polynomialNumber answer)
   pub steady : (n : ℕ) (table : List ℕ) (answer : SteadyAnswer) → SteadyPromise n table answer → Settled (steadyChecks n table) (steadyNumber answer)
-  pub locate : (bundle : List ℕ) (j : ℕ) (answer : Located) → LocatePromise bundle j answer → Settled (openChecks bundle j) (answer .refusal)
+  pub locate : (bundle : List ℕ) (j : ℕ) (answer : Located) → LocatePromise bundle j answer
+      → Settled (openChecks bundle j) (answer .refusal) × (0 < answer .refusal → (answer .n ≡ 0) × (answer .rows ≡ 0) × (answer .place ≡ 0))
+  pub opened : (bundle : RefT (List ℕ)) (j : ℕ) (answer : OpenedTable) → OpenPromise bundle j answer
+      → Settled (openChecks (now bundle) j) (answer .refusal) × (0 < answer .refusal → (answer .n ≡ 0) × (answer .rows ≡ 0) × (now (answer .bytes) ≡ []))
 
 -- what stands in the buffer after an accepted completion of k rows
 pub record Completion (n : ℕ) (table buffer : List ℕ) (k : ℕ) (after : List ℕ) : Type 0 where
@@ -76,6 +82,8 @@ pub record Marking (n : ℕ) (table buffer after : List ℕ) : Type 0 where
   pub behind : drop (length (rows n table)) after ≡ drop (length (rows n table)) buffer
 
 pub record DemandTwo : Type 1 where
+  -- rule 5's table is there for every table, and it is the only one
+  pub table : (n : ℕ) (table : List ℕ) → (H : Table) × CompletedTable n (rows n table) H × ((K : Table) → CompletedTable n (rows n table) K → K ≡ H)
   pub marks : (n : ℕ) (table buffer : List ℕ) (answer : MarksAnswer) (after : List ℕ) → MarksPromise n table buffer answer after
       → marksNumber answer ≡ 0 → Marking n table buffer after
   pub complete : (n : ℕ) (table buffer : List ℕ) (answer : CompleteAnswer) (after : List ℕ) → CompletePromise n table buffer answer after
@@ -95,6 +103,9 @@ pub record DemandThree : Type 1 where
       → (q : Monomial) → length q ≡ n → ((i : ℕ) → q ! i ≤ 255) → Inside (rows n table) q → (r : ℕ) × OneDivisor (firstRows n (completeRows answer) after) q r
   pub none : (n : ℕ) (table buffer : List ℕ) (answer : CompleteAnswer) (after : List ℕ) → CompletePromise n table buffer answer after → completeNumber answer ≡ 0
       → (q : Monomial) → length q ≡ n → (Inside (rows n table) q → ⊥) → (r : ℕ) → DivisorAt Multiplicative (firstRows n (completeRows answer) after) r q → ⊥
+  -- find gives row number r exactly when that row is the Janet divisor; this is what a scan of all rows finds
+  pub found : (n : ℕ) (table query : List ℕ) (answer : FindAnswer) → FindPromise n table query answer → findNumber answer ≡ 0
+      → (r : ℕ) → (findRow answer ≡ some r) ↔ DivisorAt Multiplicative (rows n table) r query
   pub descent : (n : ℕ) (table query : List ℕ) (answer : FindAnswer) → FindPromise n table query answer → findNumber answer ≡ 0
       → (findRow answer ≡ scan (rows n table) query) × (findSteps answer ≤ degree query + n)
   pub count : (n : ℕ) (table buffer : List ℕ) (completed : CompleteAnswer) (after : List ℕ) → CompletePromise n table buffer completed after

@@ -7,6 +7,8 @@ import re
 import subprocess
 import sys
 
+import pages
+
 ROOT = os.path.dirname(os.path.dirname(os.path.abspath(__file__)))
 CLOSING = re.compile(r'(\d+) passed, 0 failed')
 
@@ -94,6 +96,12 @@ def layout():
         raise Fault('rt fmt --check: some file is not in the layout')
 
 
+def true_pages():
+    """What the pages name is there."""
+    for fault in pages.faults(ROOT):
+        raise Fault(fault)
+
+
 def closing_number(command, environment=None, folder=ROOT):
     """Runs a command that ends in 'N passed, 0 failed', passes its lines on, and gives N."""
     run = subprocess.Popen(command, cwd=folder, env=environment, stdout=subprocess.PIPE, stderr=subprocess.STDOUT, text=True)
@@ -113,7 +121,7 @@ def closing_number(command, environment=None, folder=ROOT):
 def main():
     passed = 0
     try:
-        for step in (listed_crates, contracts, unconditional, layers, layout):
+        for step in (listed_crates, contracts, unconditional, layers, layout, true_pages):
             step()
             print(f'gate: {step.__name__}: holds', flush=True)
         passed += closing_number([sys.executable, 'tests/counters.py'])

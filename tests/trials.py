@@ -14,7 +14,7 @@ SOURCE = 'crates/terms/src/lib.rt'
 
 def copy(folder):
     """The gate with the crates terms and refusals alone, without their must-fail edits."""
-    for name in ('test', 'tests', '.ci', 'docs', '.gitignore'):
+    for name in ('test', 'tests', '.ci', '.gitignore'):
         source = os.path.join(ROOT, name)
         (shutil.copytree if os.path.isdir(source) else shutil.copy2)(source, os.path.join(folder, name))
     for crate in ('terms', 'refusals'):
@@ -45,6 +45,7 @@ FAULTS = {
     'a public function without ensures': lambda folder: edit(folder, SOURCE, '// A total degree.', 'pub fn one() -> u8 {\n    1\n}\n\n// A total degree.'),
     'a requires on a public operation': lambda folder: edit(
         folder, SOURCE, '    ensures { λ r. ⌜ r ≡ refusal (tableChecks', '    requires { ⌜ n ≤ 6 ⌝ }\n    ensures { λ r. ⌜ r ≡ refusal (tableChecks'),
+    'a page that names what is not there': lambda folder: write(folder, 'docs/GUIDE.md', 'Read `terms/specs/Nothing`.\n'),
     'a counter that is exchanged': lambda folder: edit(folder, 'tests/counters/variable_for_a_degree.edit', 'new:     Variable(sum)', 'new:     Degree(sum)'),
 }
 

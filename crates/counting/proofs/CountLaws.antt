@@ -2,6 +2,8 @@
 --
 --   upTo-only        `monomialsUpTo n s` holds monomials of n exponents and degree at most s, and no other
 --   upTo-once        it holds each of them exactly once
+--   count-outside    `countAt n G s` is rule 7's number
+--   outside-unique   there is one such number
 --   upTo-length      they are C(n + s, n)
 --   shares-inside    for any marks whose cones are disjoint by row number and cover the ideal, the sum of the cones' shares is the number of
 --                    monomials of the ideal up to s
@@ -19,15 +21,15 @@ use lib.Dec.{T}
 use lib.ListN.{length}
 use Rattle.binomial.specs.Choose.{choose}
 use Rattle.binomial.proofs.ChooseLaws.{choose-none}
-use Rattle.terms.specs.Tests.{Tests, any, keep, tests-as, tests-and, tests-eq, tests-same, tests-any}
+use Rattle.terms.specs.Tests.{Tests, any, keep, keep-in, tests-not, tests-as, tests-and, tests-eq, tests-same, tests-any}
 use Rattle.terms.specs.Monomials.{Monomial, Table, _!_, _∈_, rowAt, OfSize, degree}
 use Rattle.terms.specs.Ideal.{Inside, insideTest}
 use Rattle.terms.proofs.MonomialLaws.{within, positive, same-all}
 use Rattle.terms.proofs.IdealLaws.{tests-inside, inside-zeros}
 use Rattle.terms.proofs.RowsLaws.{member-at}
 use Rattle.division.proofs.Facade.{Marking, Cone, Disjoint, Covers, marksCount}
-use Rattle.counting.specs.Counts.{sum, raised, extended, monomialsUpTo, sameTest, occurrences, countAt, share}
-use Rattle.counting.proofs.SumLaws.{bit, bit-false, sum-append, sum-zero, sum-same, sum-map, sum-swap, length-keep, keep-or-not, one-at-most}
+use Rattle.counting.specs.Counts.{sum, raised, extended, monomialsUpTo, sameTest, occurrences, CountsOutside, countAt, share}
+use Rattle.counting.proofs.SumLaws.{bit, bit-false, sum-append, sum-zero, sum-same, sum-map, sum-swap, length-keep, sum-keep, keep-or-not, one-at-most}
 use Rattle.counting.proofs.ShareLaws.{size, share-size, share-inside, size-pascal, size-first, coneTest, markAt}
 use Rattle.counting.proofs.ShareLaws.{weight, tests-cone, cone-count, listed, length-listed, listed-at, weight-listed}
 
@@ -127,6 +129,46 @@ length-ones : (l : List Monomial) → length l ≡ sum (λ q. 1) l
 unfolding sum
 length-ones [] = refl
 length-ones (q ∷ l) = omega (arith, length-ones l)
+
+-- ---- the count is rule 7's
+
+-- what f keeps of a list has q as often as the list, if f keeps q: whatever it drops is not q
+kept-occurrences : (f : Monomial → Bool) (q : Monomial) → T (f q) → (l : List Monomial) → occurrences q (keep f l) ≡ occurrences q l
+unfolding occurrences
+kept-occurrences f q t l =
+    length-keep (sameTest q) (keep f l)
+    ∙ sum-keep (λ p. bit (sameTest q p)) f l (λ p n. bit-false (sameTest q p) (λ e. n (subst (λ (x : Monomial). T (f x)) (tests-sameTest q p .sound e) t)))
+    ∙ sym (length-keep (sameTest q) l)
+
+pub count-outside : (n : ℕ) (G : Table) (s : ℕ) → CountsOutside n G s (countAt n G s)
+unfolding countAt
+count-outside n G s = record {
+  list = keep (λ q. not (insideTest G q)) (monomialsUpTo n s);
+  size = refl;
+  only = λ q m.
+      let k = keep-in (λ q. not (insideTest G q)) (monomialsUpTo n s) q m in
+      let u = upTo-only n s q (k .0) in
+      (u .0, u .1, tests-not (tests-inside G q) .sound (k .1));
+  once = λ q e h o.
+      kept-occurrences (λ q. not (insideTest G q)) q (tests-not (tests-inside G q) .complete o) (monomialsUpTo n s) ∙ upTo-once n s q e h;
+}
+
+-- Rule 7 allows one number: of two lists that have each of the monomials once, each element of the one occurs once in the other, so both are as long.
+pub outside-unique : {n : ℕ} {G : Table} {s k m : ℕ} → CountsOutside n G s k → CountsOutside n G s m → k ≡ m
+unfolding occurrences
+outside-unique a b =
+    sym (a .size) ∙ length-ones (a .list)
+    ∙ sum-same (λ q. 1) (λ q. sum (λ p. bit (sameTest q p)) (b .list)) (a .list) (λ q i.
+    let o = a .only q i in sym (sym (length-keep (sameTest q) (b .list)) ∙ b .once q (o .0) (o .1) (o .2)))
+    ∙ sum-swap (λ q p. bit (sameTest q p)) (a .list) (b .list)
+    ∙ sum-same (λ p. sum (λ q. bit (sameTest q p)) (a .list)) (λ p. 1) (b .list) (λ p i.
+    let o = b .only p i in
+    sum-same (λ q. bit (sameTest q p)) (λ q. bit (sameTest p q)) (a .list) (λ q j. ap bit (swapped q p))
+    ∙ sym (length-keep (sameTest p) (a .list)) ∙ a .once p (o .0) (o .1) (o .2))
+    ∙ sym (length-ones (b .list)) ∙ b .size
+  where
+    swapped : (q p : Monomial) → sameTest q p ≡ sameTest p q
+    swapped q p = tests-same (sameTest q p) (sameTest p q) (tests-sameTest q p) (tests-as (tests-sameTest p q) sym sym)
 
 extended-ones : (f : ℕ → List Monomial) (n : ℕ) → ((s : ℕ) → sum (λ q. 1) (f s) ≡ size s 0 n) → (s : ℕ) → sum (λ q. 1) (extended f s) ≡ size s 0 (suc n)
 unfolding extended

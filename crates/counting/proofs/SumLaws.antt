@@ -3,6 +3,7 @@
 --   bit b            1 where b is true, 0 where it is false
 --   sum-append, sum-add, sum-zero, sum-same, sum-map, sum-swap, sum-le   sums
 --   length-keep      the number of elements kept is the sum of the bits
+--   sum-keep         elements that add nothing may be dropped
 --   keep-or-not      those kept and those not kept are all
 --   one-at-most      where no two places pass, the sum of the bits is the bit of 'some element passes'
 use mathlib.Core.Path.{_≡_, refl, sym, ap₂, _∙_, subst}
@@ -71,6 +72,16 @@ module _ {A : Type 0} where
       go : (b : Bool) → length (keep f l) ≡ sum (λ y. bit (f y)) l → length (pick b (x ∷ keep f l) (keep f l)) ≡ bit b + sum (λ y. bit (f y)) l
       go true e = omega arith
       go false e = omega arith
+
+  -- what is not kept adds nothing
+  pub sum-keep : (g : A → ℕ) (f : A → Bool) (l : List A) → ((x : A) → (T (f x) → ⊥) → g x ≡ 0) → sum g (keep f l) ≡ sum g l
+  unfolding sum
+  sum-keep g f [] h = refl
+  sum-keep g f (x ∷ l) h = go (f x) (λ t. t) (sum-keep g f l h)
+    where
+      go : (c : Bool) → (T (f x) → T c) → sum g (keep f l) ≡ sum g l → sum g (pick c (x ∷ keep f l) (keep f l)) ≡ g x + sum g l
+      go true s e = omega arith
+      go false s e = omega (arith, h x s)
 
   pub keep-or-not : (f : A → Bool) (l : List A) → length (keep (λ x. not (f x)) l) + length (keep f l) ≡ length l
   keep-or-not f [] = refl

@@ -1,7 +1,8 @@
 -- Rules 7 to 9: the count, the polynomial and the steady degree of a table.
 --
 --   monomialsUpTo n s   the monomials of n exponents and of degree at most s, each once
---   countAt n G s    rule 7: the number of those outside the ideal of G
+--   CountsOutside n G s k   rule 7: k is the number of monomials of n exponents and of degree at most s outside the ideal of G
+--   countAt n G s    that number
 --   marksIn n G u    the number of Janet's marks of the row u
 --   share s d m      rule 7: what a row of degree d with m marks takes away at s
 --   chooseℤ t m      rule 8: C(t, m) for any t, also a negative one
@@ -10,16 +11,17 @@
 --   steadyOf G       rule 9: the largest degree of a row, 0 for no rows
 --
 -- With `sum`, `sumℤ` over the elements of a list, and `occurrences q l`, how often q occurs in l.
+use mathlib.Core.Path.{_≡_}
 use mathlib.Core.Bool.{Bool, true, false, not, _&&_}
-use mathlib.Core.List.{List, [], _∷_, _++_, map}
-use Prim.Native.Nat.{ℕ, zero, suc, _+_, _-_, max}
+use mathlib.Core.List.{List, [], _∷_, _++_, map, List·Memᴰ}
+use Prim.Native.Nat.{ℕ, zero, suc, _+_, _-_, _≤_, max}
 use lib.Dec.{leb, eqb}
 use lib.ListN.{length}
 use lib.IntN.{ℤ, pos, negsuc, negℤ, subℕ, _+ℤ_, _-ℤ_}
 use Rattle.binomial.specs.Choose.{choose}
 use Rattle.terms.specs.Tests.{pick, keep}
 use Rattle.terms.specs.Monomials.{Monomial, Table, degree}
-use Rattle.terms.specs.Ideal.{insideTest}
+use Rattle.terms.specs.Ideal.{Inside, insideTest}
 use Rattle.division.proofs.Facade.{multiplicativeTest, marksCount}
 
 module _ {A : Type 0} where
@@ -61,6 +63,13 @@ unfolding sameTest
 occurrences q l = length (keep (λ p. sameTest q p) l)
 
 -- ---- rule 7
+
+-- they can be listed, each exactly once
+pub record CountsOutside (n : ℕ) (G : Table) (s k : ℕ) : Type 0 where
+  pub list : List Monomial
+  pub size : length list ≡ k
+  pub only : (q : Monomial) → List·Memᴰ q list → (length q ≡ n) × (degree q ≤ s) × (Inside G q → ⊥)
+  pub once : (q : Monomial) → length q ≡ n → degree q ≤ s → (Inside G q → ⊥) → occurrences q list ≡ 1
 
 unfoldable pub countAt : ℕ → Table → ℕ → ℕ
 unfolding monomialsUpTo insideTest

@@ -3,6 +3,7 @@
 --   part-refused, part-silent, part-none   what is written of a refused bundle, and where there is no table j
 --   refusalLine-bound      the line of a refusal has room
 --   Found b j f            what is known of table j of an accepted bundle, found by `locate`
+--   table-part             part j of an accepted bundle is the text of its table j
 --   part-found             it is known of each table that is found
 --   part-written           a text written from the start that is part j keeps the promise
 --   part-unique, part-front   the promise allows one result, and the front of the buffer is the part
@@ -60,7 +61,7 @@ past-part : (b : List ℕ) (j : ℕ) → refusal (bundleChecks b) ≡ 0 → (j <
 past-part b j e g =
     ap (λ (c : Bool). pick c (tableText (variablesOf b) j (tableOf b j)) []) (tests-false (tests-lt j (tableCount b)) g) ∙ accepted-part b j e
 
-table-part : (b : List ℕ) (j : ℕ) → refusal (bundleChecks b) ≡ 0 → j < tableCount b → tableText (variablesOf b) j (tableOf b j) ≡ partText b j
+pub table-part : (b : List ℕ) (j : ℕ) → refusal (bundleChecks b) ≡ 0 → j < tableCount b → tableText (variablesOf b) j (tableOf b j) ≡ partText b j
 table-part b j e h =
     ap (λ (c : Bool). pick c (tableText (variablesOf b) j (tableOf b j)) []) (tests-true (tests-lt j (tableCount b)) h) ∙ accepted-part b j e
 

@@ -1,7 +1,7 @@
 -- The three demands hold.
 --
 --   settled       a number that is the refusal of a list of checks settles the list
---   demand-one, demand-two, demand-three, listing-demand
+--   demand-one, demand-two, demand-three
 use mathlib.Core.Path.{_≡_, refl, sym, ap, _∙_, subst}
 use mathlib.Core.List.{List, [], _∷_, _++_, List·Memᴰ·head, List·Memᴰ·tail, Memᴰ·append-left}
 use mathlib.Core.Logic.{by-cases, _↔_}
@@ -22,7 +22,7 @@ use Rattle.terms.specs.Refusals.{Check, Accepts, Refuses, refusal, check, table
 use Rattle.terms.proofs.RowsLaws.{rows-size, rows-flat, length-flat}
 use Rattle.terms.proofs.RefusalLaws.{TableAccepted, table-accepted, accepted, accepts-nil, accepts-cons, accepts-refusal, refusal-refuses, refuses-refusal}
 use Rattle.division.specs.Janet.{Multiplicative, Complete}
-use Rattle.division.specs.Operations.{FindPromise, findChecks, findNumber, findRow, findSteps}
+use Rattle.division.specs.Operations.{FindPromise, lengthCheck, orderCheck, findChecks, findNumber, findRow, findSteps}
 use Rattle.division.proofs.FindLaws.{find-finds, find-steps, find-ready}
 use Rattle.completion.specs.Completed.{CompletedTable}
 use Rattle.completion.specs.Operation.{CompletePromise, completeChecks, completeNumber, completeRows, completedOf, roomFor}
@@ -31,7 +31,9 @@ use Rattle.completion.specs.declared.CompleteAnswer.the-variants.{Rows, Refused
 use Rattle.completion.proofs.CompletedLaws.{completed-table, completed-unique}
 use Rattle.completion.proofs.CompletionLaws.{completion-ideal, completion-complete, completion-one, completion-none, completion-size}
 use Rattle.completion.proofs.OperationLaws.{complete-unique, complete-accepts, complete-refuses, complete-count, complete-rows, complete-behind, complete-kept, room-enough, no-room, accepted-room, room-limited}
-use Rattle.counting.specs.Counts.{countAt}
+use Rattle.counting.specs.Counts.{CountsOutside, countAt}
+use Rattle.counting.proofs.CountLaws.{count-outside}
+use Rattle.division.proofs.Cover.{inside-divisor}
 use Rattle.counting.specs.Operations.{CountPromise, countChecks, countNumber, countValue, tests-notAscending, tests-notComplete}
 use Rattle.counting.specs.declared.CountAnswer.{CountAnswer}
 use Rattle.terms.specs.Ideal.{Inside}
@@ -52,9 +54,8 @@ use lib.Seq.{drop-at}
 use Rattle.bundle.specs.Checks.{openChecks}
 use Rattle.bundle.specs.Operation.{opened}
 use Rattle.bundle.proofs.ReadLaws.{refused-is}
-use Rattle.listing.proofs.PartLaws.{part-front, bundle-parts}
-use Rattle.paper.specs.Demands.{Settled, DemandOne, DemandTwo, DemandThree, ListingDemand, Completion, Marking, OneDivisor}
-use Rattle.paper.proofs.EndToEnd.{count-ideal, flat-accepted, completed-entries}
+use Rattle.paper.specs.Demands.{Settled, DemandOne, DemandTwo, DemandThree, Completion, Marking, OneDivisor}
+use Rattle.paper.proofs.EndToEnd.{outside-ideal, flat-accepted, completed-entries}
 
 -- ---- the first demand
 
@@ -169,6 +170,17 @@ demand-two = record {
 
 -- ---- the third demand
 
+-- two divisors of one monomial are one row, since the cones of an ascending table are disjoint
+found-divides : (n : ℕ) (table query : List ℕ) (answer : FindAnswer) → FindPromise n table query answer → findNumber answer ≡ 0
+    → (r : ℕ) → (findRow answer ≡ some r) ↔ DivisorAt Multiplicative (rows n table) r query
+found-divides n table query answer p e r =
+    let z : refusal (findChecks n table query) ≡ 0 = sym (p .number) ∙ e in
+    let G : Table = rows n table in
+    let found = find-finds n table query answer p z in (
+      λ same. subst (λ (o : Option ℕ). Answers Multiplicative G query o) same found,
+      λ d. answers-unique (janet-disjoint (rows-size n table) (ascending-distinct G (find-ready n table query z .ascends))) query (findRow answer) (some r) found d,
+    )
+
 module _ (n : ℕ) (table buffer : List ℕ) (k : ℕ) (after : List ℕ) (p : CompletePromise n table buffer (Rows k) after) where
   one-divisor : (q : Monomial) → length q ≡ n → ((i : ℕ) → q ! i ≤ 255) → Inside (rows n table) q → (r : ℕ) × OneDivisor (firstRows n k after) q r
   one-divisor q e small h =
@@ -199,36 +211,48 @@ module _ (n : ℕ) (table buffer : List ℕ) (k : ℕ) (after : List ℕ) (p : C
   given : TableAccepted n table
   given = table-accepted n table passed
 
+  same-rows : H ≡ rows n (flat H)
+  same-rows = sym (rows-flat n H (given .some) (completion-size is))
+
+  -- they are within the limits
+  bytes-accepted : Accepts (tableChecks n (flat H))
+  bytes-accepted =
+      flat-accepted n H (given .some) (given .few) (completion-size is) (le-trans (accepted-room n table (length buffer) (sym (p .number))) (room-limited n (length buffer)))
+      (completed-entries n table passed)
+
   -- they pass every check of count
   counted : (s : ℕ) → s ≤ 300 → Accepts (countChecks n (flat H) s)
-  counted s l = accepts-append (tableChecks n (flat H))
-      (flat-accepted n H (given .some) (given .few) (completion-size is) (le-trans (accepted-room n table (length buffer) (sym (p .number))) (room-limited n (length buffer)))
-      (completed-entries n table passed))
+  counted s l = accepts-append (tableChecks n (flat H)) bytes-accepted
       (accepts-cons (check 5 (lit< tt) (tests-lt 300 s)) _ (λ h. omega (arith, h))
-      (accepts-cons (check 6 (lit< tt) (tests-notAscending n (flat H))) _ (λ h. h (subst Ascending same (is .ascends)))
-      (accepts-cons (check 7 (lit< tt) (tests-notComplete n (flat H))) _ (λ h. h (subst (Complete n) same (completion-complete n (rows n table) (rows-size n table) is))) accepts-nil)))
-    where
-      same : H ≡ rows n (flat H)
-      same = sym (rows-flat n H (given .some) (completion-size is))
+      (accepts-cons (check 6 (lit< tt) (tests-notAscending n (flat H))) _ (λ h. h (subst Ascending same-rows (is .ascends)))
+      (accepts-cons (check 7 (lit< tt) (tests-notComplete n (flat H))) _ (λ h. h (subst (Complete n) same-rows (completion-complete n (rows n table) (rows-size n table) is))) accepts-nil)))
 
-  count-answers : (s : ℕ) → s ≤ 300 → (answer : CountAnswer) → CountPromise n (flat H) s answer → (countNumber answer ≡ 0) × (countValue answer ≡ countAt n (rows n table) s)
+  count-answers : (s : ℕ) → s ≤ 300 → (answer : CountAnswer) → CountPromise n (flat H) s answer
+      → (countNumber answer ≡ 0) × CountsOutside n (rows n table) s (countValue answer)
   count-answers s l answer c =
-      let z : refusal (countChecks n (flat H) s) ≡ 0 = accepts-refusal (countChecks n (flat H) s) (counted s l) in (
+      let z : refusal (countChecks n (flat H) s) ≡ 0 = accepts-refusal (countChecks n (flat H) s) (counted s l) in
+      let value : countAt n H s ≡ countValue answer = sym (ap countValue (c .value z) ∙ ap (λ (G : Table). countAt n G s) (sym same-rows)) in (
         c .number ∙ z,
-        ap countValue (c .value z) ∙ ap (λ (G : Table). countAt n G s) (rows-flat n H (given .some) (completion-size is))
-            ∙ sym (count-ideal n (rows n table) H (completion-ideal n (rows n table) (rows-size n table) is) s),
+        subst (λ (k : ℕ). CountsOutside n (rows n table) s k) value (outside-ideal (completion-ideal n (rows n table) (rows-size n table) is) (count-outside n H s)),
       )
 
--- two divisors of one monomial are one row, since the cones of an ascending table are disjoint
-found-divides : (n : ℕ) (table query : List ℕ) (answer : FindAnswer) → FindPromise n table query answer → findNumber answer ≡ 0
-    → (r : ℕ) → (findRow answer ≡ some r) ↔ DivisorAt Multiplicative (rows n table) r query
-found-divides n table query answer p e r =
-    let z : refusal (findChecks n table query) ≡ 0 = sym (p .number) ∙ e in
-    let G : Table = rows n table in
-    let found = find-finds n table query answer p z in (
-      λ same. subst (λ (o : Option ℕ). Answers Multiplicative G query o) same found,
-      λ d. answers-unique (janet-disjoint (rows-size n table) (ascending-distinct G (find-ready n table query z .ascends))) query (findRow answer) (some r) found d,
-    )
+  -- they pass every check of find for a query of n bytes, and a row is found exactly for the monomials of the ideal
+  find-answers : (query : List ℕ) → length query ≡ n → (answer : FindAnswer) → FindPromise n (flat H) query answer
+      → (findNumber answer ≡ 0) × (((r : ℕ) × (findRow answer ≡ some r)) ↔ Inside (rows n table) query)
+  find-answers query e answer f =
+      let z : findNumber answer ≡ 0 = f .number ∙ accepts-refusal (findChecks n (flat H) query)
+      (accepts-append (tableChecks n (flat H)) bytes-accepted
+      (accepts-cons (lengthCheck n query) _ (λ h. h e) (accepts-cons (orderCheck n (flat H)) _ (λ h. h (subst Ascending same-rows (is .ascends))) accepts-nil))) in
+      let found = found-divides n (flat H) query answer f z in (
+        z,
+        (
+          λ r. completion-ideal n (rows n table) (rows-size n table) is .back query e
+              (inside-divisor (subst (λ (G : Table). DivisorAt Multiplicative G (r .0) query) (sym same-rows) (found (r .0) .0 (r .1)))),
+          λ h.
+              let d = completion-one n (rows n table) (rows-size n table) is query e h in
+              (d .0, found (d .0) .1 (subst (λ (G : Table). DivisorAt Multiplicative G (d .0) query) same-rows (d .1))),
+        ),
+      )
 
 descent-scans : (n : ℕ) (table query : List ℕ) (answer : FindAnswer) → FindPromise n table query answer → findNumber answer ≡ 0
     → (findRow answer ≡ scan (rows n table) query) × (findSteps answer ≤ degree query + n)
@@ -247,11 +271,12 @@ demand-three = record {
   none = λ n table buffer answer after p e. no-divisor n table buffer (completeRows answer) after (accepted-promise n table buffer answer after p e);
   found = found-divides;
   descent = descent-scans;
+  completed-find = λ n table buffer answer after p e query size finding f.
+      let q = accepted-promise n table buffer answer after p e in
+      find-answers n table buffer (completeRows answer) after q query size finding
+      (subst (λ (t : List ℕ). FindPromise n t query finding) (written n table buffer (completeRows answer) after q) f);
   count = λ n table buffer answer after p e s l counting c.
       let q = accepted-promise n table buffer answer after p e in
       count-answers n table buffer (completeRows answer) after q s l counting
       (subst (λ (t : List ℕ). CountPromise n t s counting) (written n table buffer (completeRows answer) after q) c);
 }
-
-pub listing-demand : ListingDemand
-listing-demand = record { part = λ bundle j before size after p. part-front p; whole = bundle-parts }

@@ -1,40 +1,33 @@
 -- From the given rows to the count: what `complete` writes, `count` accepts, and it counts the given rows' ideal.
 --
---   count-ideal       tables with the same ideal have the same counts
+--   outside-ideal     what is counted outside an ideal is counted for each of its tables
 --   flat-accepted     a table within the limits passes the checks 1 to 4 as bytes
 --   completed-entries  each exponent of a completed row is at most 50
-use mathlib.Core.Path.{_≡_, refl, sym, ap, _∙_}
-use mathlib.Core.Bool.{Bool, not}
+use mathlib.Core.Path.{refl, ap}
 use mathlib.Core.List.{List, [], _∷_, List·Memᴰ, List·Memᴰ·head, List·Memᴰ·tail, List·Memᴰ·not-nil, List·Memᴰ·append-cases}
 use mathlib.Core.Logic.{⊎-elim}
 use Prim.Native.Nat.{ℕ, zero, suc, _≤_, _<_}
 use native.Mathlib.Omega.{arith}
 use lib.Dec.{lit<}
 use lib.ListN.{length}
-use Rattle.terms.specs.Tests.{tests-same, tests-as}
 use Rattle.terms.specs.Monomials.{Monomial, Table, _!_, _∈_, OfSize}
-use Rattle.terms.specs.Ideal.{SameIdeal, insideTest}
+use Rattle.terms.specs.Ideal.{SameIdeal}
 use Rattle.terms.specs.Rows.{rows, flat}
 use Rattle.terms.specs.Refusals.{Accepts, check, tableChecks, tests-notOneToSix, tests-noMultiple, tests-tooManyRows, tests-entryAbove50}
-use Rattle.terms.proofs.IdealLaws.{tests-inside}
 use Rattle.terms.proofs.RowsLaws.{rows-flat, length-flat, rows-size, member-index}
 use Rattle.terms.proofs.RefusalLaws.{accepts-nil, accepts-cons, accepts-refusal}
 use Rattle.division.proofs.ReadyLaws.{table-small}
 use Rattle.completion.specs.Completed.{completed}
 use Rattle.listing.proofs.BoundLaws.{completed-small}
-use Rattle.counting.specs.Counts.{countAt, monomialsUpTo}
-use Rattle.counting.proofs.SumLaws.{bit, length-keep, sum-same}
-use Rattle.counting.proofs.CountLaws.{upTo-only}
+use Rattle.counting.specs.Counts.{CountsOutside}
 
-pub count-ideal : (n : ℕ) (G H : Table) → SameIdeal n G H → (s : ℕ) → countAt n G s ≡ countAt n H s
-unfolding countAt
-count-ideal n G H same s =
-    length-keep (λ q. not (insideTest G q)) (monomialsUpTo n s)
-    ∙ sum-same (λ q. bit (not (insideTest G q))) (λ q. bit (not (insideTest H q))) (monomialsUpTo n s) (λ q m.
-    let e = upTo-only n s q m .0 in
-    ap (λ (b : Bool). bit (not b)) (tests-same (insideTest G q) (insideTest H q) (tests-inside G q)
-    (tests-as (tests-inside H q) (same .back q e) (same .into q e))))
-    ∙ sym (length-keep (λ q. not (insideTest H q)) (monomialsUpTo n s))
+pub outside-ideal : {n : ℕ} {G H : Table} {s k : ℕ} → SameIdeal n G H → CountsOutside n H s k → CountsOutside n G s k
+outside-ideal same c = record {
+  list = c .list;
+  size = c .size;
+  only = λ q m. let o = c .only q m in (o .0, o .1, λ h. o .2 (same .into q (o .0) h));
+  once = λ q e l o. c .once q e l (λ h. o (same .back q e h));
+}
 
 -- an entry of the bytes of a table is an exponent of a row
 flat-entry : (G : Table) (e : ℕ) → List·Memᴰ e (flat G) → (u : Monomial) × (u ∈ G) × List·Memᴰ e u

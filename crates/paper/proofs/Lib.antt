@@ -3,3 +3,4 @@ pub mod EndToEnd
 pub mod Demands
 pub mod Examples
 pub mod OneResult
+pub mod Outputs

@@ -7,8 +7,7 @@
 --                 room exactly when that table has more rows than the room
 --   DemandThree   among the completed rows a monomial of the ideal has exactly one Janet divisor, and any other none; the descent finds
 --                 what a scan finds within degree plus n steps; the count from the completed rows is the number of monomials outside
---
---   ListingDemand what `janet` writes: each part that the library makes is the text of that part, and the parts are the whole listing
+--   Completion, Marking, OneDivisor   what stands in a buffer after an accepted completion, after accepted marks; one divisor and no other
 --
 -- The contract of each operation is the promise of that name; every function is proved to keep it.
 use mathlib.Core.Path.{_≡_}
@@ -32,12 +31,10 @@ use Rattle.division.specs.declared.inside.InsideAnswer.{InsideAnswer}
 use Rattle.division.specs.Operations.{FindPromise, findChecks, findNumber, findRow, findSteps}
 use Rattle.completion.specs.Completed.{CompletedTable}
 use Rattle.completion.specs.Operation.{CompletePromise, completeChecks, completeNumber, completeRows, roomFor}
-use Rattle.counting.specs.Counts.{countAt}
+use Rattle.counting.specs.Counts.{CountsOutside}
 use Rattle.counting.specs.Operations.{CountPromise, PolynomialPromise, SteadyPromise, countChecks, steadyChecks, countNumber, countValue, polynomialNumber, steadyNumber}
 use Rattle.bundle.specs.Checks.{openChecks}
 use Rattle.bundle.specs.Operation.{LocatePromise, OpenPromise}
-use Rattle.listing.specs.Operation.{PartPromise}
-use Rattle.listing.specs.Text.{partText, partsText, bundleText}
 use Rattle.completion.specs.declared.CompleteAnswer.{CompleteAnswer}
 use Rattle.division.specs.declared.finding.FindAnswer.{FindAnswer}
 use Rattle.counting.specs.declared.CountAnswer.{CountAnswer}
@@ -108,10 +105,10 @@ pub record DemandThree : Type 1 where
       → (r : ℕ) → (findRow answer ≡ some r) ↔ DivisorAt Multiplicative (rows n table) r query
   pub descent : (n : ℕ) (table query : List ℕ) (answer : FindAnswer) → FindPromise n table query answer → findNumber answer ≡ 0
       → (findRow answer ≡ scan (rows n table) query) × (findSteps answer ≤ degree query + n)
+  -- on the completed rows find answers, and gives a row exactly where some given row divides the query
+  pub completed-find : (n : ℕ) (table buffer : List ℕ) (completed : CompleteAnswer) (after : List ℕ) → CompletePromise n table buffer completed after
+      → completeNumber completed ≡ 0 → (query : List ℕ) → length query ≡ n → (answer : FindAnswer) → FindPromise n (take (completeRows completed * n) after) query answer
+      → (findNumber answer ≡ 0) × (((r : ℕ) × (findRow answer ≡ some r)) ↔ Inside (rows n table) query)
   pub count : (n : ℕ) (table buffer : List ℕ) (completed : CompleteAnswer) (after : List ℕ) → CompletePromise n table buffer completed after
       → completeNumber completed ≡ 0 → (s : ℕ) → s ≤ 300 → (answer : CountAnswer) → CountPromise n (take (completeRows completed * n) after) s answer
-      → (countNumber answer ≡ 0) × (countValue answer ≡ countAt n (rows n table) s)
-
-pub record ListingDemand : Type 0 where
-  pub part : (bundle : List ℕ) (j : ℕ) (before : List ℕ) (size : ℕ) (after : List ℕ) → PartPromise bundle j before size after → take size after ≡ partText bundle j
-  pub whole : (bundle : List ℕ) → bundleText bundle ≡ partsText bundle 0 16
+      → (countNumber answer ≡ 0) × CountsOutside n (rows n table) s (countValue answer)

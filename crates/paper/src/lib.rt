@@ -1,2 +1,2 @@
 // What is promised, in one place: specs/Demands.antt has the three demands, proofs/Demands.antt their proofs, and
-// proofs/Examples.antt the paper's starred examples. There is no code here.
+// specs/Examples.antt the paper's starred examples, specs/Outputs.antt what goes out, specs/OneResult.antt that each promise allows one result. There is no code here.

@@ -8,7 +8,7 @@
 --   head-byte, heads-start, heads-more, heads-same   the head of a row is its first byte; the largest head, row by row from the last
 --   least-start, least-more   the least byte so far
 use mathlib.Core.Path.{_≡_, refl, sym, ap, _∙_, subst}
-use mathlib.Core.Bool.{Bool, true, false, not}
+use mathlib.Core.Bool.{Bool, true, false}
 use mathlib.Core.List.{List, [], _∷_, _++_}
 use mathlib.Core.Logic.{by-cases}
 use native.Mathlib.Decide.{decLt}

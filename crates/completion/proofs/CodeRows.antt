@@ -21,7 +21,7 @@ use Rattle.terms.specs.Monomials.{Monomial, Table, OfSize}
 use Rattle.terms.specs.Rows.{firstRows, flat}
 use Rattle.terms.proofs.RowsLaws.{length-firstRows, firstRows-size, firstRows-flat, length-flat}
 use Rattle.completion.specs.Blocks.{behind, repeated}
-use Rattle.completion.specs.Slices.{at, after, fit}
+use Rattle.completion.specs.Slices.{after, fit}
 use Rattle.completion.specs.Code.{part, copies}
 use Rattle.completion.proofs.BlockLaws.{cons-same}
 use Rattle.completion.proofs.CodeBytes.{rows-before, rows-fewer}

@@ -24,8 +24,8 @@ use Rattle.completion.proofs.SliceLaws.{at-size}
 use Rattle.completion.proofs.WalkLaws.{slices-size, size-both, walk-stays, walk-grows, walk-room, walk-generators, walk-block, walk-written, walk-end}
 use Rattle.completion.proofs.BufferLaws.{flat-append, length-behind, length-after, after-size, after-append, after-behind, after-drop}
 use Rattle.completion.proofs.BufferLaws.{fit-within, fit-beyond, beyond-fit, within-fit}
-use Rattle.completion.proofs.CodeBytes.{rows-fewer, times-large}
-use Rattle.completion.proofs.CodeRows.{part-add, same-rows, same-part, shorter-front, read-back, copies-repeated}
+use Rattle.completion.proofs.CodeBytes.{rows-fewer, times-large, shorter-front}
+use Rattle.completion.proofs.CodeRows.{part-add, same-rows, same-part, read-back, copies-repeated}
 use Rattle.completion.proofs.CodeLevel.{table-wide, tails-wide, lent-all, lent-length, walk-last}
 
 behind-size : (r a : ℕ) (B : Table) → OfSize r B → OfSize (suc r) (behind a B)

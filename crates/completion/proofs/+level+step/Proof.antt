@@ -14,11 +14,11 @@ use mathlib.Core.Path.{_≡_, refl, sym, ap, _∙_, subst}
 use Prim.Native.Nat.{ℕ, suc, _+_, _*_, _-_, _≤_, _<_}
 use lib.ListN.{length, take, length-replicate}
 use Rattle.terms.specs.Rows.{firstRows}
-use Rattle.terms.proofs.RowsLaws.{length-firstRows}
+use Rattle.terms.proofs.RowsLaws.{length-firstRows, zeros-at}
 use Rattle.completion.specs.Slices.{heads}
 use Rattle.completion.specs.Code.{Appended, Standing, Roomy, Linked, Firsts}
 use Rattle.completion.proofs.CodeBytes.{rows-fewer, times-large, times-less}
-use Rattle.completion.proofs.CodeChain.{linked-as, zeros-at}
+use Rattle.completion.proofs.CodeChain.{linked-as}
 use Rattle.completion.proofs.CodeLevel.{level-start, level-full, level-done, table-wide, roomy-as, next-roomy, appended-above, lent-length}
 use Rattle.completion.proofs.CodeStep.{StepRoom, step-room, step-stays, step-full, step-settles}
 use Rattle.completion.proofs.level.Reads as level

@@ -1,12 +1,14 @@
 -- One level of the recursion: what `last_variable` and `level` have written, and that all fits.
 --
---   last-none, last-full, last-one   one variable: no rows, no room, the least exponent
+--   last-wide, last-none, last-full, last-one   one variable: the bytes that are read, no rows, no room, the least exponent
 --   level-start, level-full, level-done   a level before its first head, without room, past its last head
 --   table-wide, tails-wide, roomy-as, next-roomy   room for the table, for its tails, with other contents, for the next level
 --   appended-above, lent-all, lent-length, walk-last   small facts of ends, of a lent part, of the last growing head
 use mathlib.Core.Path.{_≡_, refl, sym, ap, _∙_}
 use mathlib.Core.Bool.{Bool, true, false}
 use mathlib.Core.List.{List, [], _∷_, _++_, append-nil}
+use mathlib.Core.Logic.{by-cases}
+use native.Mathlib.Decide.{decLe}
 use Prim.Native.Nat.{ℕ, zero, suc, _+_, _*_, _-_, _≤_, _<_}
 use native.Mathlib.Nat.{mul-le-mul-right, mul-add, mul-le-mul-left}
 use native.Mathlib.Numerals.{add-one}
@@ -17,17 +19,13 @@ use Rattle.terms.specs.Monomials.{Monomial, Table, _!_, OfSize, rowAt}
 use Rattle.terms.specs.Rows.{firstRows, flat}
 use Rattle.terms.proofs.RowsLaws.{length-firstRows, firstRows-size, member-at, member-index}
 use Rattle.completion.specs.Slices.{at, heads, fresh, Walk, walk, slices, after}
-use Rattle.completion.specs.Code.{part, space, Appended, Standing, Stepped, Roomy}
+use Rattle.completion.specs.Code.{space, Appended, Standing, Stepped, Roomy}
 use Rattle.completion.specs.declared.Progress.{Progress}
 use Rattle.completion.proofs.WalkLaws.{slices-none, slices-one, slices-walk, walk-stays, walk-grows}
 use Rattle.completion.proofs.BufferLaws.{fit-within, fit-beyond, beyond-fit, within-fit, walk-fit}
 use Rattle.completion.proofs.CodeBytes.{head-byte, rows-fewer}
 
 -- ---- one variable
-
-pub last-wide : (rows size : ℕ) → rows * space 1 ≤ size → rows * 1 ≤ size
-unfolding space
-last-wide rows size h = h
 
 slices-least : (rows m : ℕ) (work : List ℕ) → rows * 1 ≤ length work → ((i : ℕ) → i < rows → m ≤ getD work i 0) → ((i : ℕ) × (i < rows) × (getD work i 0 ≡ m)) → slices 1 (firstRows 1 rows work) ≡ (m ∷ []) ∷ []
 slices-least rows m work h low found =
@@ -43,40 +41,48 @@ slices-least rows m work h low found =
           omega (arith, low (r .0) l, byte (r .0) l, ap (λ (v : Monomial). v ! 1) (r .2));
     })
 
-module _ (n rows : ℕ) (head work out : List ℕ) (room at : ℕ) where
-  pub last-none : at ≤ room → rows ≡ 0 → Appended n 0 rows head work out room at at work out
+module _ {n rows : ℕ} {work out : List ℕ} {room at : ℕ} (R : Roomy n 0 rows work out room at) where
+  pub last-wide : rows ≤ length work
+  unfolding space
+  last-wide = omega (arith, R .wide)
+
+  pub last-none : {head : List ℕ} → rows ≡ 0 → Appended n 0 rows head work out room at at work out
   unfolding firstRows flat after
-  last-none h e =
+  last-none e =
       let s : slices 1 (firstRows 1 rows work) ≡ [] = ap (λ (k : ℕ). slices 1 (firstRows 1 k work)) e ∙ slices-none 1 in
       let z : at + 0 ≡ at = omega arith in
       record {
-        end = rw (s, z) (sym (fit-within room at h));
+        end = rw (s, z) (sym (fit-within room at (R .starts)));
         written = λ l. rw s (sym (append-nil (take (at * n) out)));
         kept = refl;
       }
 
-  module _ (m : ℕ) (h : rows * 1 ≤ length work) (low : (i : ℕ) → i < rows → m ≤ getD work i 0) (found : (i : ℕ) × (i < rows) × (getD work i 0 ≡ m)) where
-    pub last-full : room ≤ at → (o : List ℕ) → Appended n 0 rows head work out room at (room + 1) work o
-    last-full l o =
-        let s = slices-least rows m work h low found in
-        record {
-          end = rw s (sym (fit-beyond room (at + 1) (omega arith) ∙ sym (add-one room)));
-          written = λ g. absurd (omega arith);
-          kept = refl;
-        }
+  module _ (m : ℕ) (found : ((i : ℕ) → i < rows → m ≤ getD work i 0) × ((i : ℕ) × (i < rows) × (getD work i 0 ≡ m))) where
+    one-row : slices 1 (firstRows 1 rows work) ≡ (m ∷ []) ∷ []
+    one-row = slices-least rows m work (omega (arith, last-wide)) (found .0) (found .1)
 
-    pub last-one : at < room → room * n ≤ length out → 0 < n → n ≤ length head → (o : List ℕ) → o ≡ paste out (at * n) (drop 0 (set head (n - 1) m)) n → Appended n 0 rows head work out room at (at + 1) work o
+    pub last-full : {head o : List ℕ} → room ≤ at → Appended n 0 rows head work out room at (room + 1) work o
+    last-full l = record {
+      end = rw one-row (sym (fit-beyond room (at + 1) (omega arith) ∙ sym (add-one room)));
+      written = λ g. absurd (omega arith);
+      kept = refl;
+    }
+
+    pub last-one : at < room → (head : List ℕ) → length head ≡ 6 → (row o : List ℕ) → row ≡ set head (n - 1) m → o ≡ paste out (at * n) (drop 0 row) n →
+        Appended n 0 rows head work out room at (at + 1) work o
     unfolding flat after
-    last-one l r p q o e =
-        let s = slices-least rows m work h low found in
+    last-one l head six row o q e =
         let f : (at + 1) * n ≡ at * n + n = omega arith in
         let g : (at + 1) * n ≤ room * n = mul-le-mul-right n (omega arith) in
-        let t : n ≤ length (set head (n - 1) m) = rw length-set q in
-        let k : suc (n - 1) ≡ n = omega arith in
-        let row : take n (set head (n - 1) m) ≡ take (n - 1) head ++ (m ∷ []) = ap (λ (x : ℕ). take x (set head (n - 1) m)) (sym k) ∙ take-suc-set head (n - 1) m (omega arith) in
+        let t : n ≤ length (set head (n - 1) m) = rw length-set (omega (arith, R .six)) in
+        let k : suc (n - 1) ≡ n = omega (arith, R .variables) in
+        let front : take n (set head (n - 1) m) ≡ take (n - 1) head ++ (m ∷ []) =
+        ap (λ (x : ℕ). take x (set head (n - 1) m)) (sym k) ∙ take-suc-set head (n - 1) m (omega (arith, R .six)) in
         record {
-          end = rw s (sym (fit-within room (at + 1) (omega arith)));
-          written = λ x. rw (s, f, e, take-paste out (at * n) (set head (n - 1) m) n (omega arith) t, row) (ap (λ (y : List ℕ). take (at * n) out ++ y) (sym (append-nil (take (n - 1) head ++ (m ∷ [])))));
+          end = rw one-row (sym (fit-within room (at + 1) (omega arith)));
+          written = λ x.
+              rw (one-row, f, e, q, take-paste out (at * n) (set head (n - 1) m) n (omega (arith, R .holds)) t, front)
+              (ap (λ (y : List ℕ). take (at * n) out ++ y) (sym (append-nil (take (n - 1) head ++ (m ∷ [])))));
           kept = refl;
         }
 
@@ -111,9 +117,10 @@ module _ {n rest rows : ℕ} {work out : List ℕ} {room x : ℕ} (h : Roomy n r
     starts = g;
   }
 
-  pub next-roomy : 0 < rest → (all : ℕ) → all ≤ rows → (lent after : List ℕ) (y : ℕ) → length lent ≡ length work - rows * suc rest → length after ≡ length out → y ≤ room → Roomy n (rest - 1) all lent after room y
+  pub next-roomy : 0 < rest → {all : ℕ} → all ≤ rows → {lent after : List ℕ} → length lent ≡ length work - rows * suc rest → length after ≡ length out →
+      {y : ℕ} → y ≤ room → Roomy n (rest - 1) all lent after room y
   unfolding space
-  next-roomy p all few lent after y l m g =
+  next-roomy p {all} few {lent} {after} l m {y} g =
       let w : suc (rest - 1) ≡ rest = omega arith in
       let e : rows * (suc rest + space rest) ≡ rows * suc rest + rows * space rest = mul-add rows (suc rest) (space rest) in
       let f : all * space rest ≤ rows * space rest = rows-fewer all rows (space rest) few in
@@ -130,14 +137,15 @@ module _ {n rest rows : ℕ} {work out : List ℕ} {room x : ℕ} (h : Roomy n r
 
 -- ---- a level: before the first head, and past the last
 
-module _ (n rest rows : ℕ) (head work out : List ℕ) (room start : ℕ) (h : Roomy n rest rows work out room start) where
+module _ {n rest rows : ℕ} {work out : List ℕ} {room start : ℕ} (h : Roomy n rest rows work out room start) where
   abbrev T : Table
   T = firstRows (suc rest) rows work
 
   size : OfSize (suc rest) T
   size = firstRows-size (suc rest) rows work (table-wide h)
 
-  pub level-start : Standing T start (take (start * n) out) n rest rows head room 0 work out (record { from = start; end = start; last = 0; generators = 0 })
+  pub level-start : {head : List ℕ} →
+      Standing T start (take (start * n) out) n rest rows head room 0 work out (record { from = start; end = start; last = 0; generators = 0 })
   unfolding walk firstRows flat after
   level-start =
       let f : start * n ≤ room * n = rows-fewer start room n (h .starts) in
@@ -154,9 +162,9 @@ module _ (n rest rows : ℕ) (head work out : List ℕ) (room start : ℕ) (h : 
       }
 
   -- no room for what a head adds: none for the whole
-  pub level-full : (a : ℕ) (now new after : List ℕ) (r : Progress) → take (rows * suc rest) now ≡ take (rows * suc rest) work → Stepped T start (take (start * n) out) n rest rows head room a now r new after →
-      room < r .end → Appended n rest rows head work out room start (r .end) new after
-  level-full a now new after r k s g =
+  pub level-full : {head : List ℕ} {a : ℕ} {now new after : List ℕ} {r : Progress} → Stepped T start (take (start * n) out) n rest rows head room a now r new after →
+      take (rows * suc rest) now ≡ take (rows * suc rest) work → room < r .end → Appended n rest rows head work out room start (r .end) new after
+  level-full {a = a} s k g =
       let W : Table = walk (λ H. slices rest H) T (suc a) .written in
       let b : room < start + length W = beyond-fit room (start + length W) (rw (s .end) at g) in
       record {
@@ -165,24 +173,25 @@ module _ (n rest rows : ℕ) (head work out : List ℕ) (room start : ℕ) (h : 
         kept = s .kept ∙ k;
       }
 
-  pub level-done : (a : ℕ) (now after : List ℕ) (w : Progress) → a ≡ heads T → take (rows * suc rest) now ≡ take (rows * suc rest) work → Standing T start (take (start * n) out) n rest rows head room a now after w →
-      Appended n rest rows head work out room start (w .end) now after
-  level-done a now after w e k s =
+  pub level-done : {head : List ℕ} {a : ℕ} {now after : List ℕ} {w : Progress} → Standing T start (take (start * n) out) n rest rows head room a now after w →
+      take (rows * suc rest) now ≡ take (rows * suc rest) work → a ≡ heads T → Appended n rest rows head work out room start (w .end) now after
+  level-done {head} {a} s k e =
       let all : walk (λ H. slices rest H) T a .written ≡ slices (suc rest) T = ap (λ (x : ℕ). walk (λ H. slices rest H) T x .written) e ∙ sym (slices-walk rest T) in
-      let f : w .end ≡ start + length (slices (suc rest) T) = s .end ∙ ap (λ (H : Table). start + length H) all in
+      let f = s .end ∙ ap (λ (H : Table). start + length H) all in
       record {
         end = f ∙ sym (fit-within room (start + length (slices (suc rest) T)) (omega (arith, s .within)));
-        written = λ l. s .written ∙ ap (λ (H : Table). take (start * n) out ++ flat (Rattle.completion.specs.Slices.after (take (n - suc rest) head) H)) all;
+        written = λ l. s .written ∙ ap (λ (H : Table). take (start * n) out ++ flat (after (take (n - suc rest) head) H)) all;
         kept = k;
       }
 
 -- ---- small facts
 
--- what was written is no less than before
-pub appended-above : {n rest rows : ℕ} {head work out : List ℕ} {room x r : ℕ} {work' out' : List ℕ} → Appended n rest rows head work out room x r work' out' → r ≤ room → x ≤ r
-appended-above {rest = rest} {rows = rows} {work = work} {room = room} {x = x} A h =
+-- the new end is no less than the old one
+pub appended-above : {n rest rows : ℕ} {head work out : List ℕ} {room x r : ℕ} {work' out' : List ℕ} →
+    Appended n rest rows head work out room x r work' out' → x ≤ room → x ≤ r
+appended-above {rest = rest} {rows = rows} {work = work} {room = room} {x = x} {r = r} A h =
     let e : ℕ = x + length (slices (suc rest) (firstRows (suc rest) rows work)) in
-    omega (arith, A .end, fit-within room e (within-fit room e (omega (arith, A .end))))
+    by-cases (decLe r room) (λ l. omega (arith, A .end, fit-within room e (within-fit room e (omega (arith, A .end))))) (λ g. omega arith)
 
 -- the part of an array from a place on
 pub lent-all : (base : ℕ) (b : List ℕ) → take (length b - base) (drop base b) ≡ drop base b

@@ -3,9 +3,9 @@
 --   firstRows-add, part-add, part-snoc   rows in two parts, and the last row
 --   front-rows, same-rows  the rows at the front are those of the bytes at the front
 --   read-back              rows that were written are read again
---   pasted-front, pasted-rows   the bytes before a copy, and the rows of the copy
+--   pasted-rows            the rows of a copy
 --   columned, column-more  the rows with exponent k set in the first of them, and in one more
---   same-piece, same-byte, same-part, front-of   what lies before a place up to which two arrays are equal
+--   same-piece, same-part, front-of   what lies before a place up to which two arrays are equal
 --   compact-more           the last exponents of one more row are written
 --   again-rows, repeat-more, repeat-beyond   a block once more, once more at each turn, and without room
 --   copies-repeated        copies of a block behind a front are its repetitions
@@ -15,16 +15,16 @@ use Prim.Native.Nat.{ℕ, zero, suc, _+_, _*_, _-_, _≤_, _<_}
 use native.Mathlib.Nat.{mul-le-mul-right, add-mul}
 use native.Mathlib.Numerals.{add-one}
 use native.Mathlib.Omega.{arith}
-use lib.ListN.{length, take, drop, getD, set, length-append, length-drop, length-set, length-map, take-append-drop}
-use lib.Seq.{paste, length-take-le, getD-take, drop-drop, take-add, take-take, take-at, drop-at, take-append-le, set-append-left, take-paste}
+use lib.ListN.{length, take, drop, set, length-append, length-drop, length-set, length-map, take-append-drop}
+use lib.Seq.{paste, length-take-le, drop-drop, take-take, take-at, drop-at, set-append-left, take-paste}
 use Rattle.terms.specs.Monomials.{Monomial, Table, OfSize}
 use Rattle.terms.specs.Rows.{firstRows, flat}
-use Rattle.terms.proofs.RowsLaws.{length-firstRows, firstRows-size, firstRows-flat, length-flat}
+use Rattle.terms.proofs.RowsLaws.{length-firstRows, firstRows-size, firstRows-flat, flat-firstRows, length-flat}
 use Rattle.completion.specs.Blocks.{behind, repeated}
-use Rattle.completion.specs.Slices.{at, after, fit}
+use Rattle.completion.specs.Slices.{after, fit}
 use Rattle.completion.specs.Code.{part, copies}
 use Rattle.completion.proofs.BlockLaws.{cons-same}
-use Rattle.completion.proofs.CodeBytes.{rows-before, rows-fewer}
+use Rattle.completion.proofs.CodeBytes.{rows-before, rows-fewer, shorter-front, pasted-front}
 use Rattle.completion.proofs.BufferLaws.{flat-append, after-append, after-set, fit-beyond}
 
 -- ---- parts
@@ -47,16 +47,9 @@ pub part-snoc : (n k from : ℕ) (b : List ℕ) → part n (k + 1) from b ≡ pa
 unfolding firstRows
 part-snoc n k from b = part-add n k 1 from b
 
-pub flat-part : (n k : ℕ) (b : List ℕ) → flat (firstRows n k b) ≡ take (k * n) b
-unfolding firstRows flat
-flat-part n zero b = let e : 0 * n ≡ 0 = omega arith in rw e
-flat-part n (suc k) b =
-    let e : suc k * n ≡ n + k * n = omega arith in
-    rw (e, take-add n (k * n) b, flat-part n k (drop n b))
-
 pub front-rows : (n k : ℕ) (s rest : List ℕ) → k * n ≤ length s → firstRows n k (take (k * n) s ++ rest) ≡ firstRows n k s
 front-rows n k s rest h =
-    ap (λ (l : List ℕ). firstRows n k (l ++ rest)) (sym (flat-part n k s))
+    ap (λ (l : List ℕ). firstRows n k (l ++ rest)) (sym (flat-firstRows n k s))
     ∙ ap (λ (j : ℕ). firstRows n j (flat (firstRows n k s) ++ rest)) (sym (length-firstRows n k s))
     ∙ firstRows-flat n (firstRows n k s) rest (firstRows-size n k s h)
 
@@ -74,19 +67,7 @@ read-back n k from b X G z l x e =
     ∙ ap (λ (j : ℕ). firstRows n j (flat G ++ drop (from + k * n) b)) (sym l)
     ∙ firstRows-flat n G (drop (from + k * n) b) z
 
--- a shorter front of equal fronts
-pub shorter-front : (x y : ℕ) (b d : List ℕ) → x ≤ y → take y b ≡ take y d → take x b ≡ take x d
-shorter-front x y b d h e = sym (take-take x y b h) ∙ ap (λ (l : List ℕ). take x l) e ∙ take-take x y d h
-
 -- ---- a copy
-
-pub pasted-front : (d s : List ℕ) (x to count : ℕ) → x ≤ to → to ≤ length d → take x (paste d to s count) ≡ take x d
-pasted-front d s x to count h g =
-    let l : length (take to d) ≡ to = length-take-le to d g in
-    let m : x ≤ length (take to d ++ take count s) = rw length-append (omega arith) in
-    take-append-le x (take to d ++ take count s) (drop (to + count) d) m
-    ∙ take-append-le x (take to d) (take count s) (omega arith)
-    ∙ take-take x to d h
 
 pub pasted-rows : (n k : ℕ) (d s : List ℕ) (to : ℕ) → to + k * n ≤ length d → k * n ≤ length s → part n k to (paste d to s (k * n)) ≡ firstRows n k s
 pasted-rows n k d s to h g =
@@ -172,7 +153,7 @@ again-rows n k first count end e out new after h g p q =
     let s : (end + count) * n ≡ end * n + count * n = add-mul end count n in
     let t : first * n + count * n ≤ end * n = rows-before first count end n g in
     let d : count * n ≤ length (drop (first * n) out) = rw length-drop (omega arith) in
-    let f : take (end * n) new ≡ take (end * n) out = ap (λ (l : List ℕ). take (end * n) l) p ∙ pasted-front out (drop (first * n) out) (end * n) (end * n) (count * n) (omega arith) (omega arith) in
+    let f : take (end * n) new ≡ take (end * n) out = ap (λ (l : List ℕ). take (end * n) l) p ∙ pasted-front out (drop (first * n) out) (end * n) (count * n) (omega arith) in
     let r : part n count (end * n) new ≡ part n count (first * n) out = ap (λ (l : List ℕ). part n count (end * n) l) p ∙ pasted-rows n count out (drop (first * n) out) (end * n) (omega arith) d in
     q ∙ rw (f, r)
 
@@ -200,9 +181,6 @@ copies-repeated p last b (suc j) B =
 
 pub same-piece : (x r y : ℕ) (b d : List ℕ) → x + r ≤ y → take y b ≡ take y d → take r (drop x b) ≡ take r (drop x d)
 same-piece x r y b d h e = sym (drop-take x r b) ∙ ap (λ (l : List ℕ). drop x l) (shorter-front (x + r) y b d h e) ∙ drop-take x r d
-
-pub same-byte : (x y : ℕ) (b d : List ℕ) → x < y → take y b ≡ take y d → getD b x 0 ≡ getD d x 0
-same-byte x y b d h e = sym (getD-take y b x 0 h) ∙ ap (λ (l : List ℕ). getD l x 0) e ∙ getD-take y d x 0 h
 
 pub same-part : (n k x y : ℕ) (b d : List ℕ) → x + k * n ≤ y → y ≤ length b → y ≤ length d → take y b ≡ take y d → part n k x b ≡ part n k x d
 same-part n k x y b d h g f e =

@@ -11,6 +11,7 @@ pub mod CodeBytes
 pub mod CodeRows
 pub mod CodeChain
 pub mod CodeLevel
+pub mod CodeSettle
 pub mod CodeStep
 pub mod CodeOperation
 pub mod Examples

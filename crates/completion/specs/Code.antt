@@ -7,6 +7,7 @@
 --   space m              the bytes that a row of m exponents and its tails take
 --   Appended             what `level` does: the completed table behind a front, at the end of what is written
 --   Standing             the code's walk after the heads below a is the model's
+--   Settled              what `settle` does: the walk's state once the level of a head has ended
 --   Stepped              what `step` does: the walk goes on by one head
 --   Roomy                sizes that fit, and room in both arrays
 --   Collects, Collected  what `collect` asks and does: the completed table of a table, from the front of an array on
@@ -18,7 +19,7 @@ use lib.ListN.{length, take, drop, getD, set}
 use Rattle.terms.specs.Tests.{pick}
 use Rattle.terms.specs.Monomials.{Table, _!_, rowAt}
 use Rattle.terms.specs.Rows.{firstRows, flat}
-use Rattle.completion.specs.Slices.{walk, slices, after, fit}
+use Rattle.completion.specs.Slices.{shorter, walk, slices, after, fit}
 use Rattle.completion.specs.Operation.{completedOf}
 use Rattle.completion.specs.declared.Progress.{Progress}
 
@@ -63,6 +64,15 @@ pub record Standing (T : Table) (start : ℕ) (P : List ℕ) (n rest rows : ℕ)
   pub end : w .end ≡ start + length (walk (λ H. slices rest H) T a .written)
   pub within : w .end ≤ room
   pub written : take (w .end * n) out ≡ P ++ flat (after (take (n - suc rest) head) (walk (λ H. slices rest H) T a .written))
+
+-- The rows of the level of head a go from `start` to `stop`. Where there is room for them, they are the block, and the generators are the shorter of their
+-- last exponents and the `all` rows that stood at byte `base`. Where there is none, only the end tells.
+pub record Settled (n rest all base start stop a room : ℕ) (work out : List ℕ) (r : Progress) (work' : List ℕ) : Type 0 where
+  pub end : r .end ≡ stop
+  pub kept : take base work' ≡ take base work
+  pub from : stop ≤ room → r .from ≡ start
+  pub last : stop ≤ room → r .last ≡ a
+  pub generators : stop ≤ room → part rest (r .generators) base work' ≡ shorter (map (λ u. drop (n - rest) u) (part n (stop - start) (start * n) out)) (part rest all base work)
 
 pub record Stepped (T : Table) (start : ℕ) (P : List ℕ) (n rest rows : ℕ) (head : List ℕ) (room a : ℕ) (work : List ℕ) (r : Progress) (work' out' : List ℕ) : Type 0 where
   pub kept : take (rows * suc rest) work' ≡ take (rows * suc rest) work

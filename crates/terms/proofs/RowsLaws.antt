@@ -1,9 +1,10 @@
 -- Laws of rows as bytes.
 --
 --   length-rows, rows-at, rows-size   how many rows the bytes are, row r of them, and that each has n exponents
---   rows-flat, flat-rows   rows of bytes that were written from a table, and the bytes again
+--   rows-flat, flat-rows, flat-firstRows   rows of bytes that were written from a table, and the bytes again
 --   member-at, member-index   a row by its number, and the number of a row
 --   row-fits               a row below the count lies within the bytes
+--   zeros-at               each byte of an array of zeros is 0
 --   padded-at, length-padded   a padded row has the exponents of the row, and six of them
 --   entry-at               an exponent of a row is a byte of the table
 use mathlib.Core.Path.{_≡_, refl, sym, ap, _∙_}
@@ -120,7 +121,7 @@ rows-flat n G p z =
     let e : flat G ++ [] ≡ flat G = append-nil (flat G) in
     ap (λ (k : ℕ). firstRows n k (flat G)) c ∙ rw e at (firstRows-flat n G [] z)
 
-flat-firstRows : (n k : ℕ) (t : List ℕ) → flat (firstRows n k t) ≡ take (k * n) t
+pub flat-firstRows : (n k : ℕ) (t : List ℕ) → flat (firstRows n k t) ≡ take (k * n) t
 unfolding firstRows flat
 flat-firstRows n zero t = let e : 0 * n ≡ 0 = omega arith in rw e
 flat-firstRows n (suc k) t =
@@ -137,7 +138,7 @@ pub length-padded : (u : Monomial) → length u ≤ 6 → length (padded u) ≡ 
 unfolding padded
 length-padded u h = rw (length-append, length-replicate) (omega arith)
 
-zeros-at : (k i : ℕ) → _≡_ {A = ℕ} (getD (replicate k 0) i 0) 0
+pub zeros-at : (k i : ℕ) → _≡_ {A = ℕ} (getD (replicate k 0) i 0) 0
 zeros-at k i = by-cases (decLt i k)
     (λ l. getD-replicate k i 0 0 l)
     (λ g. List·getD-eq-default (replicate k 0) 0 {n = i} (rw length-replicate (omega arith)))

@@ -1,24 +1,26 @@
--- `level` and `step` meet their contracts. `level` calls `step` at the same number of variables, and `step` calls `level` at one less: 2r for `step` and 2r + 1 for `level`, with r variables behind the present one.
--- The loop of `level`: what is written, the block, the generators and the last head are those of the model's walk after the heads below a, and the chains stand.
--- `step` follows the model's step: the tails are collected, tested, and where they grow the block is repeated and the next level is called.
-use borrow.Rule.Slice.PartMut.{putMid, take-put, same-len-mid}
-use native.Mathlib.Numerals.{add-one}
-use lib.ListN.{length-replicate, length, take, drop, set}
-use borrow.Author.Tests.{not-true, not-false}
-use Rattle.terms.specs.Rows.{firstRows}
-use Rattle.completion.proofs.CodeBytes.{rows-fewer, times-large, times-less}
-use Rattle.completion.proofs.CodeLevel.{level-start, level-full, level-done, table-wide, tails-wide, roomy-as, next-roomy, appended-above, lent-all, lent-length, walk-last}
-use Rattle.completion.proofs.CodeStep.{few, grows-as, step-stays, step-full, step-over, step-keeps, step-takes}
-use Rattle.completion.specs.Slices.{at, slices, heads}
-use Rattle.completion.specs.Code.{Appended, Standing, Roomy, Linked, Firsts}
-use Rattle.completion.proofs.CodeChain.{linked-as, zeros-at}
-use Rattle.terms.proofs.RowsLaws.{length-firstRows}
+-- `level` and `step` meet their contracts. `level` calls `step` at the same number of variables, and `step` calls `level` at one less: 2r for `step` and
+-- 2r + 1 for `level`, with r variables behind the present one.
+-- The loop of `level`: what is written, the block, the generators and the last head are those of the model's walk after the heads below a, and the chains
+-- stand. `step` follows the model's step: the tails are collected, tested, and where they grow the block is repeated and the next level is called.
 use borrow.Author.Needs.{needs}
-use native.Mathlib.Omega.{arith}
-use mathlib.Core.Path.{_≡_, refl, sym, ap, _∙_, subst}
-use Prim.Native.Nat.{suc, _+_, _*_, _-_, _≤_, ℕ, _<_}
+use borrow.Author.Tests.{not-true, not-false}
 use borrow.Fn.Kinds.{In}
 use borrow.Fn.PlainCycle.{Measures, is, falls, and}
+use borrow.Rule.Slice.PartMut.{take-put, same-len-mid}
+use native.Mathlib.Nat.{add-mul}
+use native.Mathlib.Numerals.{add-one}
+use native.Mathlib.Omega.{arith}
+use mathlib.Core.Path.{_≡_, refl, sym, ap, _∙_, subst}
+use Prim.Native.Nat.{ℕ, suc, _+_, _*_, _-_, _≤_, _<_}
+use lib.ListN.{length, take, length-replicate}
+use Rattle.terms.specs.Rows.{firstRows}
+use Rattle.terms.proofs.RowsLaws.{length-firstRows, zeros-at}
+use Rattle.completion.specs.Slices.{heads}
+use Rattle.completion.specs.Code.{Appended, Standing, Roomy, Linked, Firsts}
+use Rattle.completion.proofs.CodeBytes.{rows-fewer, times-large, times-less}
+use Rattle.completion.proofs.CodeChain.{linked-as}
+use Rattle.completion.proofs.CodeLevel.{level-start, level-full, level-done, table-wide, roomy-as, next-roomy, appended-above, lent-length}
+use Rattle.completion.proofs.CodeStep.{StepRoom, step-room, step-stays, step-full, step-settles}
 use Rattle.completion.proofs.level.Reads as level
 use Rattle.completion.proofs.level.Kinds as level-kinds
 use Rattle.completion.proofs.+level+step.Lts-level as level-lts
@@ -26,12 +28,13 @@ use Rattle.completion.proofs.step.Reads as step
 use Rattle.completion.proofs.step.Kinds as step-kinds
 use Rattle.completion.proofs.+level+step.Lts-step as step-lts
 use Rattle.completion.proofs.chain.Reads as chain-reads
-use Rattle.completion.proofs.compact.Reads as compact-reads
 use Rattle.completion.proofs.grows.Reads as grows-reads
 use Rattle.completion.proofs.head_count.Reads as head-count-reads
 use Rattle.completion.proofs.last_variable.Reads as last-variable-reads
 use Rattle.completion.proofs.repeat.Reads as repeat-reads
+use Rattle.completion.proofs.settle.Reads as settle-reads
 use Rattle.completion.proofs.take_tails.Reads as take-tails-reads
+use Rattle.completion.proofs.with_exponent.Reads as with-exponent-reads
 use Rattle.completion.proofs.+level+step.{statement}
 use Rattle.completion.proofs.+level+step.Tie.{close}
 
@@ -53,6 +56,34 @@ step-at t = and 4 step-kinds.ps (is 4 step-kinds.ps μ-step t) step.Pre
 abbrev step-below : ℕ → In 4 step-kinds.ps
 step-below t = and 4 step-kinds.ps (falls 4 step-kinds.ps _<_ μ-step t) step.Pre
 
+abbrev level-claims : ℕ → level-lts.Claims
+level-claims t = (
+  last-variable-reads.Asked,
+  last-variable-reads.Learnt,
+  chain-reads.Asked,
+  chain-reads.Learnt,
+  head-count-reads.Asked,
+  head-count-reads.Learnt,
+  step-below t,
+  step.Post,
+)
+
+abbrev step-claims : ℕ → step-lts.Claims
+step-claims t = (
+  take-tails-reads.Asked,
+  take-tails-reads.Learnt,
+  grows-reads.Asked,
+  grows-reads.Learnt,
+  repeat-reads.Asked,
+  repeat-reads.Learnt,
+  with-exponent-reads.Asked,
+  with-exponent-reads.Learnt,
+  level-below t,
+  level.Post,
+  settle-reads.Asked,
+  settle-reads.Learnt,
+)
+
 abbrev level-Inv-loop : level-lts.InvT-loop
 level-Inv-loop work₀ next₀ rows rest head out₀ room at first top w₀ a₀ work next out w a =
     Standing (firstRows (suc rest) rows work₀) at (take (at * head .n) out₀) (head .n) rest rows (head .exponents) room a work out w
@@ -68,1180 +99,387 @@ level-Inv-loop work₀ next₀ rows rest head out₀ room at first top w₀ a₀
 abbrev level-μ-loop : level-lts.MeasureT-loop
 level-μ-loop work₀ next₀ rows rest head out₀ room at first top w₀ a₀ work next out w a = top - a
 
-level-last-variable-requires : (t : ℕ) → level-lts.Need-last-variable-requires (
-  last-variable-reads.Asked,
-  last-variable-reads.Learnt,
-  chain-reads.Asked,
-  chain-reads.Learnt,
-  head-count-reads.Asked,
-  head-count-reads.Learnt,
-  step-below t,
-  step.Post,
-) (level-at t) level.Post level-Inv-loop level-μ-loop
+-- ---- `level`: the places of its loop, from later to earlier ones
+
+abbrev level-entry : (t : ℕ) → level-lts.At-loop (level-claims t) (level-at t) level.Post level-Inv-loop level-μ-loop →
+    level-lts.Start (level-claims t) (level-at t) level.Post level-Inv-loop level-μ-loop
+level-entry t c = c .before .before .before .before .before .before .before .before .before .before .before .before .before .before
+
+abbrev level-turn : (t : ℕ) → level-lts.After-step (level-claims t) (level-at t) level.Post level-Inv-loop level-μ-loop →
+    level-lts.At-loop (level-claims t) (level-at t) level.Post level-Inv-loop level-μ-loop
+level-turn t c = c .before .before .before .before .before .before
+
+-- one variable: no others behind it
+level-last-variable-requires : (t : ℕ) → level-lts.Need-last-variable-requires (level-claims t) (level-at t) level.Post level-Inv-loop level-μ-loop
 level-last-variable-requires t c κs =
-    let s = c .before .before .before .before .before .before in let a = s .args in
+    let s = c .before .before .before .before .before .before in
+    let a = s .args in
     subst (λ (x : ℕ). Roomy (a .head .n) x (a .rows) (a .work .now) (a .out .now) (a .room) (a .at)) (c .before .before .if1 .taken) (s .pre .1 .0)
 
-level-same-length : (t : ℕ) → level-lts.Need-same-length (
-  last-variable-reads.Asked,
-  last-variable-reads.Learnt,
-  chain-reads.Asked,
-  chain-reads.Learnt,
-  head-count-reads.Asked,
-  head-count-reads.Learnt,
-  step-below t,
-  step.Post,
-) (level-at t) level.Post level-Inv-loop level-μ-loop
+level-same-length : (t : ℕ) → level-lts.Need-same-length (level-claims t) (level-at t) level.Post level-Inv-loop level-μ-loop
 level-same-length t c = search needs
 
-level-same-length-2 : (t : ℕ) → level-lts.Need-same-length-2 (
-  last-variable-reads.Asked,
-  last-variable-reads.Learnt,
-  chain-reads.Asked,
-  chain-reads.Learnt,
-  head-count-reads.Asked,
-  head-count-reads.Learnt,
-  step-below t,
-  step.Post,
-) (level-at t) level.Post level-Inv-loop level-μ-loop
+level-same-length-2 : (t : ℕ) → level-lts.Need-same-length-2 (level-claims t) (level-at t) level.Post level-Inv-loop level-μ-loop
 level-same-length-2 t c = search needs
 
-level-returns : (t : ℕ) → level-lts.Need-returns (
-  last-variable-reads.Asked,
-  last-variable-reads.Learnt,
-  chain-reads.Asked,
-  chain-reads.Learnt,
-  head-count-reads.Asked,
-  head-count-reads.Learnt,
-  step-below t,
-  step.Post,
-) (level-at t) level.Post level-Inv-loop level-μ-loop
+-- what `last_variable` appended
+level-returns : (t : ℕ) → level-lts.Need-returns (level-claims t) (level-at t) level.Post level-Inv-loop level-μ-loop
 level-returns t c =
-    let s = c .before .before .before .before .before .before .before .before .before in let a = s .args in
-    subst (λ (x : ℕ). Appended (a .head .n) x (a .rows) (a .head .exponents) (a .work .now) (a .out .now) (a .room) (a .at) (c .before .before .last-variable .result) (a .work .now) (c .before .before .last-variable .last .1 .1 .1 .0))
-    (sym (c .before .before .before .before .before .if1 .taken)) (c .before .before .last-variable .ensures)
+    let a = c .before .before .before .before .before .before .before .before .before .args in
+    let last = c .before .before .last-variable in
+    subst (λ (x : ℕ). Appended (a .head .n) x (a .rows) (a .head .exponents) (a .work .now) (a .out .now) (a .room) (a .at)
+    (last .result) (a .work .now) (last .last .1 .1 .1 .0))
+    (sym (c .before .before .before .before .before .if1 .taken)) (last .ensures)
 
-level-add-chain : (t : ℕ) → level-lts.Need-add-chain (
-  last-variable-reads.Asked,
-  last-variable-reads.Learnt,
-  chain-reads.Asked,
-  chain-reads.Learnt,
-  head-count-reads.Asked,
-  head-count-reads.Learnt,
-  step-below t,
-  step.Post,
-) (level-at t) level.Post level-Inv-loop level-μ-loop
+level-add-chain : (t : ℕ) → level-lts.Need-add-chain (level-claims t) (level-at t) level.Post level-Inv-loop level-μ-loop
 level-add-chain t c = search needs
 
-level-slice-aggregate-chain : (t : ℕ) → level-lts.Need-slice-aggregate-chain (
-  last-variable-reads.Asked,
-  last-variable-reads.Learnt,
-  chain-reads.Asked,
-  chain-reads.Learnt,
-  head-count-reads.Asked,
-  head-count-reads.Learnt,
-  step-below t,
-  step.Post,
-) (level-at t) level.Post level-Inv-loop level-μ-loop
+level-slice-aggregate-chain : (t : ℕ) → level-lts.Need-slice-aggregate-chain (level-claims t) (level-at t) level.Post level-Inv-loop level-μ-loop
 level-slice-aggregate-chain t c = search needs
 
-level-chain-requires : (t : ℕ) → level-lts.Need-chain-requires (
-  last-variable-reads.Asked,
-  last-variable-reads.Learnt,
-  chain-reads.Asked,
-  chain-reads.Learnt,
-  head-count-reads.Asked,
-  head-count-reads.Learnt,
-  step-below t,
-  step.Post,
-) (level-at t) level.Post level-Inv-loop level-μ-loop
+-- the table lies in work, and next has a place for each row
+level-chain-requires : (t : ℕ) → level-lts.Need-chain-requires (level-claims t) (level-at t) level.Post level-Inv-loop level-μ-loop
 level-chain-requires t c κs =
-    let s = c .before .before .before .before .before .before .before in let a = s .args in
+    let s = c .before .before .before .before .before .before .before in
     let f = table-wide (s .pre .1 .0) in
-    let g = times-large (a .rows) (a .rest) (omega arith) in
+    let g = times-large (s .args .rows) (s .args .rest) (omega arith) in
     (omega arith, omega arith, s .pre .1 .0 .many, omega (arith, s .pre .1 .1), length-replicate {A = ℕ} 256 0, zeros-at 256)
 
-level-add-head-count : (t : ℕ) → level-lts.Need-add-head-count (
-  last-variable-reads.Asked,
-  last-variable-reads.Learnt,
-  chain-reads.Asked,
-  chain-reads.Learnt,
-  head-count-reads.Asked,
-  head-count-reads.Learnt,
-  step-below t,
-  step.Post,
-) (level-at t) level.Post level-Inv-loop level-μ-loop
+level-add-head-count : (t : ℕ) → level-lts.Need-add-head-count (level-claims t) (level-at t) level.Post level-Inv-loop level-μ-loop
 level-add-head-count t c = search needs
 
-level-head-count-requires : (t : ℕ) → level-lts.Need-head-count-requires (
-  last-variable-reads.Asked,
-  last-variable-reads.Learnt,
-  chain-reads.Asked,
-  chain-reads.Learnt,
-  head-count-reads.Asked,
-  head-count-reads.Learnt,
-  step-below t,
-  step.Post,
-) (level-at t) level.Post level-Inv-loop level-μ-loop
+level-head-count-requires : (t : ℕ) → level-lts.Need-head-count-requires (level-claims t) (level-at t) level.Post level-Inv-loop level-μ-loop
 level-head-count-requires t c κs =
-    let s = c .before .before .before .before .before .before .before .before .before .before .before .before in let a = s .args in
-    let f = table-wide (s .pre .1 .0) in
+    let f = table-wide (c .before .before .before .before .before .before .before .before .before .before .before .before .pre .1 .0) in
     (omega arith, omega arith)
 
-level-loop-holds : (t : ℕ) → level-lts.Need-loop-holds (
-  last-variable-reads.Asked,
-  last-variable-reads.Learnt,
-  chain-reads.Asked,
-  chain-reads.Learnt,
-  head-count-reads.Asked,
-  head-count-reads.Learnt,
-  step-below t,
-  step.Post,
-) (level-at t) level.Post level-Inv-loop level-μ-loop
+-- before the first head nothing is written, and the chains stand
+level-loop-holds : (t : ℕ) → level-lts.Need-loop-holds (level-claims t) (level-at t) level.Post level-Inv-loop level-μ-loop
 level-loop-holds t c =
-    let s = c .before .before .before .before .before .before .before .before .before .before .before .before .before in let a = s .args in (
-      level-start (a .head .n) (a .rest) (a .rows) (a .head .exponents) (a .work .now) (a .out .now) (a .room) (a .at) (s .pre .1 .0),
+    let s = c .before .before .before .before .before .before .before .before .before .before .before .before .before in
+    let a = s .args in
+    let k = c .before .before .before .before .before .chain in (
+      level-start (s .pre .1 .0),
       refl,
       omega arith,
       refl,
       refl,
       refl,
-      c .before .before .before .before .before .chain .kept .1 .1 .1 .1 .0 ∙ length-replicate {A = ℕ} 256 0,
-      subst (λ (m : ℕ). Linked (firstRows m (a .rows) (a .work .now)) (c .before .before .before .before .before .chain .last .1 .1 .1 .0)) (add-one (a .rest)) (c .before .before .before .before .before .chain .ensures .0),
-      subst (λ (m : ℕ). Firsts (firstRows m (a .rows) (a .work .now)) (c .before .before .before .before .before .chain .last .1 .1 .1 .1 .0)) (add-one (a .rest)) (c .before .before .before .before .before .chain .ensures .1),
+      k .kept .1 .1 .1 .1 .0 ∙ length-replicate {A = ℕ} 256 0,
+      subst (λ (m : ℕ). Linked (firstRows m (a .rows) (a .work .now)) (k .last .1 .1 .1 .0)) (add-one (a .rest)) (k .ensures .0),
+      subst (λ (m : ℕ). Firsts (firstRows m (a .rows) (a .work .now)) (k .last .1 .1 .1 .1 .0)) (add-one (a .rest)) (k .ensures .1),
     )
 
-level-slice-aggregate-step : (t : ℕ) → level-lts.Need-slice-aggregate-step (
-  last-variable-reads.Asked,
-  last-variable-reads.Learnt,
-  chain-reads.Asked,
-  chain-reads.Learnt,
-  head-count-reads.Asked,
-  head-count-reads.Learnt,
-  step-below t,
-  step.Post,
-) (level-at t) level.Post level-Inv-loop level-μ-loop
+level-slice-aggregate-step : (t : ℕ) → level-lts.Need-slice-aggregate-step (level-claims t) (level-at t) level.Post level-Inv-loop level-μ-loop
 level-slice-aggregate-step t c = search needs
 
-level-step-requires : (t : ℕ) → level-lts.Need-step-requires (
-  last-variable-reads.Asked,
-  last-variable-reads.Learnt,
-  chain-reads.Asked,
-  chain-reads.Learnt,
-  head-count-reads.Asked,
-  head-count-reads.Learnt,
-  step-below t,
-  step.Post,
-) (level-at t) level.Post level-Inv-loop level-μ-loop
+-- the walk stands at head a, with the room of the start
+level-step-requires : (t : ℕ) → level-lts.Need-step-requires (level-claims t) (level-at t) level.Post level-Inv-loop level-μ-loop
 level-step-requires t c κs =
-    let s = c .before .before .before .before .before .before .before .before .before .before .before .before .before .before .before .before .before .before .before in let a = s .args in let l = c .before .before .before .before .before .loop in
-    let same : firstRows (suc (a .rest)) (a .rows) (l .work) ≡ firstRows (suc (a .rest)) (a .rows) (a .work .now) = l .inv .0 .table in (
+    let o = c .before .before .before .before .before in
+    let s = level-entry t o in
+    let a = s .args in
+    let l = o .loop in
+    let T = firstRows (suc (a .rest)) (a .rows) (a .work .now) in
+    let same : firstRows (suc (a .rest)) (a .rows) (l .work) ≡ T = l .inv .0 .table in (
       omega (arith, s .pre .0),
       (
         roomy-as (s .pre .1 .0) (l .work) (l .out) (l .w .end) (l .inv .3) (l .inv .4) (l .inv .0 .within),
-        omega arith,
-        omega (arith, c .before .before .before .before .before .before .head-count .ensures .1),
-        omega (arith, s .pre .1 .1, l .inv .5, c .before .before .before .before .before .before .before .before .before .before .before .chain .kept .1 .1 .1 .0),
+        omega (arith, o .before .before .before .before .before .before .before .before .before .before .if1 .left),
+        omega (arith, o .before .head-count .ensures .1),
+        omega (arith, s .pre .1 .1, l .inv .5, o .before .before .before .before .before .before .chain .kept .1 .1 .1 .0),
         l .inv .6,
         rw same (l .inv .7),
         rw same (l .inv .8),
-        (firstRows (suc (a .rest)) (a .rows) (a .work .now), a .at, take (a .at * a .head .n) (a .out .now), l .inv .0),
+        (T, a .at, take (a .at * a .head .n) (a .out .now), l .inv .0),
       ),
     )
 
-level-same-length-3 : (t : ℕ) → level-lts.Need-same-length-3 (
-  last-variable-reads.Asked,
-  last-variable-reads.Learnt,
-  chain-reads.Asked,
-  chain-reads.Learnt,
-  head-count-reads.Asked,
-  head-count-reads.Learnt,
-  step-below t,
-  step.Post,
-) (level-at t) level.Post level-Inv-loop level-μ-loop
+level-same-length-3 : (t : ℕ) → level-lts.Need-same-length-3 (level-claims t) (level-at t) level.Post level-Inv-loop level-μ-loop
 level-same-length-3 t c = search needs
 
-level-same-length-4 : (t : ℕ) → level-lts.Need-same-length-4 (
-  last-variable-reads.Asked,
-  last-variable-reads.Learnt,
-  chain-reads.Asked,
-  chain-reads.Learnt,
-  head-count-reads.Asked,
-  head-count-reads.Learnt,
-  step-below t,
-  step.Post,
-) (level-at t) level.Post level-Inv-loop level-μ-loop
+level-same-length-4 : (t : ℕ) → level-lts.Need-same-length-4 (level-claims t) (level-at t) level.Post level-Inv-loop level-μ-loop
 level-same-length-4 t c = search needs
 
-level-same-length-5 : (t : ℕ) → level-lts.Need-same-length-5 (
-  last-variable-reads.Asked,
-  last-variable-reads.Learnt,
-  chain-reads.Asked,
-  chain-reads.Learnt,
-  head-count-reads.Asked,
-  head-count-reads.Learnt,
-  step-below t,
-  step.Post,
-) (level-at t) level.Post level-Inv-loop level-μ-loop
+level-same-length-5 : (t : ℕ) → level-lts.Need-same-length-5 (level-claims t) (level-at t) level.Post level-Inv-loop level-μ-loop
 level-same-length-5 t c = search needs
 
-level-returns-2 : (t : ℕ) → level-lts.Need-returns-2 (
-  last-variable-reads.Asked,
-  last-variable-reads.Learnt,
-  chain-reads.Asked,
-  chain-reads.Learnt,
-  head-count-reads.Asked,
-  head-count-reads.Learnt,
-  step-below t,
-  step.Post,
-) (level-at t) level.Post level-Inv-loop level-μ-loop
+-- no room for what a head adds: none for the whole
+level-returns-2 : (t : ℕ) → level-lts.Need-returns-2 (level-claims t) (level-at t) level.Post level-Inv-loop level-μ-loop
 level-returns-2 t c =
-    let s = c .before .before .before .before .before .before .before .before .before .before .before .before .before .before .before .before .before .before .before .before .before .before .before .before .before .before .before .before in let a = s .args in let l = c .before .before .before .before .before .before .before .before .before .before .before .before .before .before .loop in
-    let q = c .before .before .before .before .before .before .before .before .step .ensures .1 (firstRows (suc (a .rest)) (a .rows) (a .work .now)) (a .at) (take (a .at * a .head .n) (a .out .now)) (l .inv .0) in
-    level-full (a .head .n) (a .rest) (a .rows) (a .head .exponents) (a .work .now) (a .out .now) (a .room) (a .at) (s .pre .1 .0) (l .a) (l .work) _ _ _ (l .inv .1) q (c .if2 .taken)
+    let k = c .before .before .before .before .before .before .before .before in
+    let o = level-turn t k in
+    level-full (level-entry t o .pre .1 .0) (k .step .ensures .1 _ _ _ (o .loop .inv .0)) (o .loop .inv .1) (c .if2 .taken)
 
-level-add-a : (t : ℕ) → level-lts.Need-add-a (
-  last-variable-reads.Asked,
-  last-variable-reads.Learnt,
-  chain-reads.Asked,
-  chain-reads.Learnt,
-  head-count-reads.Asked,
-  head-count-reads.Learnt,
-  step-below t,
-  step.Post,
-) (level-at t) level.Post level-Inv-loop level-μ-loop
+level-add-a : (t : ℕ) → level-lts.Need-add-a (level-claims t) (level-at t) level.Post level-Inv-loop level-μ-loop
 level-add-a t c = search needs
 
-level-loop-less : (t : ℕ) → level-lts.Need-loop-less (
-  last-variable-reads.Asked,
-  last-variable-reads.Learnt,
-  chain-reads.Asked,
-  chain-reads.Learnt,
-  head-count-reads.Asked,
-  head-count-reads.Learnt,
-  step-below t,
-  step.Post,
-) (level-at t) level.Post level-Inv-loop level-μ-loop
+level-loop-less : (t : ℕ) → level-lts.Need-loop-less (level-claims t) (level-at t) level.Post level-Inv-loop level-μ-loop
 level-loop-less t c = search needs
 
-level-loop-again : (t : ℕ) → level-lts.Need-loop-again (
-  last-variable-reads.Asked,
-  last-variable-reads.Learnt,
-  chain-reads.Asked,
-  chain-reads.Learnt,
-  head-count-reads.Asked,
-  head-count-reads.Learnt,
-  step-below t,
-  step.Post,
-) (level-at t) level.Post level-Inv-loop level-μ-loop
+-- the walk goes on by one head; the chains of the rows were kept
+level-loop-again : (t : ℕ) → level-lts.Need-loop-again (level-claims t) (level-at t) level.Post level-Inv-loop level-μ-loop
 level-loop-again t c =
-    let s = c .before .before .before .before .before .before .before .before .before .before .before .before .before .before .before .before .before .before .before .before .before .before .before .before .before .before .before .before in let a = s .args in let l = c .before .before .before .before .before .before .before .before .before .before .before .before .before .before .loop in
+    let d = c .before .before .before .before .before .before .before .before in
+    let o = level-turn t d in
+    let a = level-entry t o .args in
+    let l = o .loop in
+    let k = d .step in
     let T = firstRows (suc (a .rest)) (a .rows) (a .work .now) in
-    let q = c .before .before .before .before .before .before .before .before .step .ensures .1 T (a .at) (take (a .at * a .head .n) (a .out .now)) (l .inv .0) in (
+    let q = k .ensures .1 T _ _ (l .inv .0) in (
       rw (add-one (l .a)) (q .on (c .if2 .left)),
       q .kept ∙ l .inv .1,
       omega arith,
-      c .before .before .before .before .before .before .before .before .step .kept .0 ∙ l .inv .3,
-      c .before .before .before .before .before .before .before .before .step .kept .1 .1 .1 .1 .1 .1 .0 ∙ l .inv .4,
-      c .before .before .before .before .before .before .before .before .step .kept .1 .0 ∙ l .inv .5,
+      k .kept .0 ∙ l .inv .3,
+      k .kept .1 .1 .1 .1 .1 .1 .0 ∙ l .inv .4,
+      k .kept .1 .0 ∙ l .inv .5,
       l .inv .6,
-      linked-as T (a .rows) (l .next) (c .before .before .before .before .before .before .before .before .step .last .1 .0) (length-firstRows (suc (a .rest)) (a .rows) (a .work .now)) (c .before .before .before .before .before .before .before .before .step .ensures .0) (l .inv .7),
+      linked-as T (a .rows) (l .next) (k .last .1 .0) (length-firstRows (suc (a .rest)) (a .rows) (a .work .now)) (k .ensures .0) (l .inv .7),
       l .inv .8,
     )
 
-level-same-length-6 : (t : ℕ) → level-lts.Need-same-length-6 (
-  last-variable-reads.Asked,
-  last-variable-reads.Learnt,
-  chain-reads.Asked,
-  chain-reads.Learnt,
-  head-count-reads.Asked,
-  head-count-reads.Learnt,
-  step-below t,
-  step.Post,
-) (level-at t) level.Post level-Inv-loop level-μ-loop
+level-same-length-6 : (t : ℕ) → level-lts.Need-same-length-6 (level-claims t) (level-at t) level.Post level-Inv-loop level-μ-loop
 level-same-length-6 t c = search needs
 
-level-same-length-7 : (t : ℕ) → level-lts.Need-same-length-7 (
-  last-variable-reads.Asked,
-  last-variable-reads.Learnt,
-  chain-reads.Asked,
-  chain-reads.Learnt,
-  head-count-reads.Asked,
-  head-count-reads.Learnt,
-  step-below t,
-  step.Post,
-) (level-at t) level.Post level-Inv-loop level-μ-loop
+level-same-length-7 : (t : ℕ) → level-lts.Need-same-length-7 (level-claims t) (level-at t) level.Post level-Inv-loop level-μ-loop
 level-same-length-7 t c = search needs
 
-level-same-length-8 : (t : ℕ) → level-lts.Need-same-length-8 (
-  last-variable-reads.Asked,
-  last-variable-reads.Learnt,
-  chain-reads.Asked,
-  chain-reads.Learnt,
-  head-count-reads.Asked,
-  head-count-reads.Learnt,
-  step-below t,
-  step.Post,
-) (level-at t) level.Post level-Inv-loop level-μ-loop
+level-same-length-8 : (t : ℕ) → level-lts.Need-same-length-8 (level-claims t) (level-at t) level.Post level-Inv-loop level-μ-loop
 level-same-length-8 t c = search needs
 
-level-returns-3 : (t : ℕ) → level-lts.Need-returns-3 (
-  last-variable-reads.Asked,
-  last-variable-reads.Learnt,
-  chain-reads.Asked,
-  chain-reads.Learnt,
-  head-count-reads.Asked,
-  head-count-reads.Learnt,
-  step-below t,
-  step.Post,
-) (level-at t) level.Post level-Inv-loop level-μ-loop
+-- past the last head the walk has written the whole
+level-returns-3 : (t : ℕ) → level-lts.Need-returns-3 (level-claims t) (level-at t) level.Post level-Inv-loop level-μ-loop
 level-returns-3 t c =
-    let s = c .before .before .before .before .before .before .before .before .before .before .before .before .before .before .before in let a = s .args in let l = c .before .loop in
-    let h : c .before .before .head-count .result ≡ heads (firstRows (suc (a .rest)) (a .rows) (a .work .now)) = c .before .before .head-count .ensures .0 ∙ ap (λ (m : ℕ). heads (firstRows m (a .rows) (a .work .now))) (add-one (a .rest)) in
-    level-done (a .head .n) (a .rest) (a .rows) (a .head .exponents) (a .work .now) (a .out .now) (a .room) (a .at) (s .pre .1 .0) (l .a) (l .work) (l .out) (l .w) (omega arith) (l .inv .1) (l .inv .0)
+    let s = level-entry t (c .before) in
+    let l = c .before .loop in
+    let top = c .before .before .head-count in
+    let h = top .ensures .0 ∙ ap (λ (m : ℕ). heads (firstRows m (s .args .rows) (s .args .work .now))) (add-one (s .args .rest)) in
+    level-done (s .pre .1 .0) (l .inv .0) (l .inv .1) (omega arith)
 
-step-add-base : (t : ℕ) → step-lts.Need-add-base (
-  take-tails-reads.Asked,
-  take-tails-reads.Learnt,
-  grows-reads.Asked,
-  grows-reads.Learnt,
-  repeat-reads.Asked,
-  repeat-reads.Learnt,
-  level-below t,
-  level.Post,
-  compact-reads.Asked,
-  compact-reads.Learnt,
-) (step-at t) step.Post
+-- ---- `step`: its places, from later to earlier ones, and the sizes at its start
+
+abbrev step-start : (t : ℕ) → step-lts.After-take-tails (step-claims t) (step-at t) step.Post → step-lts.Start (step-claims t) (step-at t) step.Post
+step-start t c = c .before .before .before .before .before .before .before
+
+abbrev step-tails : (t : ℕ) → step-lts.Else1 (step-claims t) (step-at t) step.Post → step-lts.After-take-tails (step-claims t) (step-at t) step.Post
+step-tails t c = c .before .before .before .before .before
+
+abbrev step-grown : (t : ℕ) → step-lts.After-with-exponent (step-claims t) (step-at t) step.Post → step-lts.Else1 (step-claims t) (step-at t) step.Post
+step-grown t c = c .before .before .before .before .before .before
+
+-- a row has six exponents
+step-six : (t : ℕ) (s : step-lts.Start (step-claims t) (step-at t) step.Post) → length (s .args .head .exponents) ≡ 6
+step-six t s = search needs
+
+-- the tails, the chains and the last block fit
+step-sizes : (t : ℕ) (s : step-lts.Start (step-claims t) (step-at t) step.Post) →
+    StepRoom (s .args .rest) (s .args .rows) (s .args .a) (s .args .work .now) (s .args .next .now) (s .args .w)
+step-sizes t s = let q = s .pre .1 in step-room (q .7 .3) (q .0) (q .1) (s .args .next .now) (q .3)
+
+step-add-base : (t : ℕ) → step-lts.Need-add-base (step-claims t) (step-at t) step.Post
 step-add-base t c = search needs
 
-step-mul-base : (t : ℕ) → step-lts.Need-mul-base (
-  take-tails-reads.Asked,
-  take-tails-reads.Learnt,
-  grows-reads.Asked,
-  grows-reads.Learnt,
-  repeat-reads.Asked,
-  repeat-reads.Learnt,
-  level-below t,
-  level.Post,
-  compact-reads.Asked,
-  compact-reads.Learnt,
-) (step-at t) step.Post
-step-mul-base t c =
-    let s = c .before .before .before .before in let a = s .args in let q = s .pre .1 in
-    let e6 : length (a .head .exponents) ≡ 6 = search needs in
-    let S = q .7 .3 in
-    let f = few (q .7 .0) (q .7 .1) (q .7 .2) (a .head .n) (a .rest) (a .rows) (a .head .exponents) (a .room) (a .a) (a .work .now) (a .out .now) (a .w) S (q .0 .variables) (omega (arith, q .0 .six)) (table-wide (q .0)) (q .0 .holds) in
-    let g = tails-wide (q .0) in
-    omega arith
+-- the table and the tails behind it lie in work
+step-mul-base : (t : ℕ) → step-lts.Need-mul-base (step-claims t) (step-at t) step.Post
+step-mul-base t c = let x = step-sizes t (c .before .before .before .before) in omega arith
 
-step-mul-take-tails : (t : ℕ) → step-lts.Need-mul-take-tails (
-  take-tails-reads.Asked,
-  take-tails-reads.Learnt,
-  grows-reads.Asked,
-  grows-reads.Learnt,
-  repeat-reads.Asked,
-  repeat-reads.Learnt,
-  level-below t,
-  level.Post,
-  compact-reads.Asked,
-  compact-reads.Learnt,
-) (step-at t) step.Post
-step-mul-take-tails t c =
-    let s = c .before .before .before .before .before .before in let a = s .args in let q = s .pre .1 in
-    let e6 : length (a .head .exponents) ≡ 6 = search needs in
-    let S = q .7 .3 in
-    let f = few (q .7 .0) (q .7 .1) (q .7 .2) (a .head .n) (a .rest) (a .rows) (a .head .exponents) (a .room) (a .a) (a .work .now) (a .out .now) (a .w) S (q .0 .variables) (omega (arith, q .0 .six)) (table-wide (q .0)) (q .0 .holds) in
-    let g = tails-wide (q .0) in
-    let h = rows-fewer (a .w .generators) (a .rows) (a .rest) (omega arith) in
-    omega arith
+step-mul-take-tails : (t : ℕ) → step-lts.Need-mul-take-tails (step-claims t) (step-at t) step.Post
+step-mul-take-tails t c = let x = step-sizes t (c .before .before .before .before .before .before) in omega arith
 
-step-add-take-tails : (t : ℕ) → step-lts.Need-add-take-tails (
-  take-tails-reads.Asked,
-  take-tails-reads.Learnt,
-  grows-reads.Asked,
-  grows-reads.Learnt,
-  repeat-reads.Asked,
-  repeat-reads.Learnt,
-  level-below t,
-  level.Post,
-  compact-reads.Asked,
-  compact-reads.Learnt,
-) (step-at t) step.Post
-step-add-take-tails t c =
-    let s = c .before .before .before .before .before .before in let a = s .args in let q = s .pre .1 in
-    let e6 : length (a .head .exponents) ≡ 6 = search needs in
-    let S = q .7 .3 in
-    let f = few (q .7 .0) (q .7 .1) (q .7 .2) (a .head .n) (a .rest) (a .rows) (a .head .exponents) (a .room) (a .a) (a .work .now) (a .out .now) (a .w) S (q .0 .variables) (omega (arith, q .0 .six)) (table-wide (q .0)) (q .0 .holds) in
-    let g = tails-wide (q .0) in
-    let h = rows-fewer (a .w .generators) (a .rows) (a .rest) (omega arith) in
-    omega arith
+step-add-take-tails : (t : ℕ) → step-lts.Need-add-take-tails (step-claims t) (step-at t) step.Post
+step-add-take-tails t c = let x = step-sizes t (c .before .before .before .before .before .before) in omega arith
 
-step-take-tails-requires : (t : ℕ) → step-lts.Need-take-tails-requires (
-  take-tails-reads.Asked,
-  take-tails-reads.Learnt,
-  grows-reads.Asked,
-  grows-reads.Learnt,
-  repeat-reads.Asked,
-  repeat-reads.Learnt,
-  level-below t,
-  level.Post,
-  compact-reads.Asked,
-  compact-reads.Learnt,
-) (step-at t) step.Post
+-- the tails of a lie behind the generators, with room for them
+step-take-tails-requires : (t : ℕ) → step-lts.Need-take-tails-requires (step-claims t) (step-at t) step.Post
 step-take-tails-requires t c κs =
-    let s = c .before .before .before .before .before .before in let a = s .args in let q = s .pre .1 in
-    let e6 : length (a .head .exponents) ≡ 6 = search needs in
-    let S = q .7 .3 in
-    let f = few (q .7 .0) (q .7 .1) (q .7 .2) (a .head .n) (a .rest) (a .rows) (a .head .exponents) (a .room) (a .a) (a .work .now) (a .out .now) (a .w) S (q .0 .variables) (omega (arith, q .0 .six)) (table-wide (q .0)) (q .0 .holds) in
-    let g = tails-wide (q .0) in
-    let h = rows-fewer (a .w .generators + length (at (a .a) (firstRows (suc (a .rest)) (a .rows) (a .work .now)))) (a .rows) (a .rest) f in
-    let large = times-large (a .rows) (a .rest) (q .1) in
-    (omega arith, omega arith, omega (arith, q .3), q .0 .many, omega (arith, q .4, q .2), q .2, q .5, q .6)
+    let s = c .before .before .before .before .before .before in
+    let q = s .pre .1 in
+    let x = step-sizes t s in
+    (omega arith, omega arith, x .chained, q .0 .many, omega (arith, q .4, q .2), q .2, q .5, q .6)
 
-step-grows-requires : (t : ℕ) → step-lts.Need-grows-requires (
-  take-tails-reads.Asked,
-  take-tails-reads.Learnt,
-  grows-reads.Asked,
-  grows-reads.Learnt,
-  repeat-reads.Asked,
-  repeat-reads.Learnt,
-  level-below t,
-  level.Post,
-  compact-reads.Asked,
-  compact-reads.Learnt,
-) (step-at t) step.Post
+-- and so do the generators and the tails together
+step-grows-requires : (t : ℕ) → step-lts.Need-grows-requires (step-claims t) (step-at t) step.Post
 step-grows-requires t c κs =
-    let s = c .before .before .before .before .before .before .before .before .before .before in let a = s .args in let q = s .pre .1 in
-    let e6 : length (a .head .exponents) ≡ 6 = search needs in
-    let S = q .7 .3 in
-    let f = few (q .7 .0) (q .7 .1) (q .7 .2) (a .head .n) (a .rest) (a .rows) (a .head .exponents) (a .room) (a .a) (a .work .now) (a .out .now) (a .w) S (q .0 .variables) (omega (arith, q .0 .six)) (table-wide (q .0)) (q .0 .holds) in
-    let g = tails-wide (q .0) in
-    let h = rows-fewer (a .w .generators + c .before .before .before .take-tails .result) (a .rows) (a .rest) (omega (arith, c .before .before .before .take-tails .ensures .0)) in
-    omega (arith, c .before .before .before .take-tails .kept .0)
+    let d = c .before .before .before in
+    let x = step-sizes t (step-start t d) in
+    rw (d .take-tails .ensures .0) (omega (arith, d .take-tails .kept .0))
 
-step-same-length : (t : ℕ) → step-lts.Need-same-length (
-  take-tails-reads.Asked,
-  take-tails-reads.Learnt,
-  grows-reads.Asked,
-  grows-reads.Learnt,
-  repeat-reads.Asked,
-  repeat-reads.Learnt,
-  level-below t,
-  level.Post,
-  compact-reads.Asked,
-  compact-reads.Learnt,
-) (step-at t) step.Post
+step-same-length : (t : ℕ) → step-lts.Need-same-length (step-claims t) (step-at t) step.Post
 step-same-length t c = search needs
 
-step-same-length-2 : (t : ℕ) → step-lts.Need-same-length-2 (
-  take-tails-reads.Asked,
-  take-tails-reads.Learnt,
-  grows-reads.Asked,
-  grows-reads.Learnt,
-  repeat-reads.Asked,
-  repeat-reads.Learnt,
-  level-below t,
-  level.Post,
-  compact-reads.Asked,
-  compact-reads.Learnt,
-) (step-at t) step.Post
+step-same-length-2 : (t : ℕ) → step-lts.Need-same-length-2 (step-claims t) (step-at t) step.Post
 step-same-length-2 t c = search needs
 
-step-returns : (t : ℕ) → step-lts.Need-returns (
-  take-tails-reads.Asked,
-  take-tails-reads.Learnt,
-  grows-reads.Asked,
-  grows-reads.Learnt,
-  repeat-reads.Asked,
-  repeat-reads.Learnt,
-  level-below t,
-  level.Post,
-  compact-reads.Asked,
-  compact-reads.Learnt,
-) (step-at t) step.Post
+-- the tails add nothing
+step-returns : (t : ℕ) → step-lts.Need-returns (step-claims t) (step-at t) step.Post
 step-returns t c =
-    let s = c .before .before .before .before .before .before .before .before .before .before .before .before in let a = s .args in let q = s .pre .1 in
-    let e6 : length (a .head .exponents) ≡ 6 = search needs in
-    let g = tails-wide (q .0) in
-    let k = c .before .before .before .before .before .take-tails in
-    let base : ℕ = a .rows * (a .rest + 1) in
-    let base-is : base ≡ a .rows * suc (a .rest) = omega arith in
-    let six : a .head .n ≤ length (a .head .exponents) = omega (arith, q .0 .six) in
-    let cap : base + a .rows * a .rest ≤ length (a .work .now) = omega arith in (
+    let d = c .before .before .before .before .before in
+    let k = d .take-tails in (
       refl,
-      λ T start P S.
-          let fresh-is = grows-as T start P (a .head .n) (a .rest) (a .rows) (a .head .exponents) (a .room) (a .a) (a .work .now) (a .out .now) (a .w) S (q .0 .variables) six (table-wide (q .0)) (q .0 .holds) base base-is (k .result) (k .last .0) (k .kept .0) (k .ensures .0) (k .ensures .1) (k .ensures .2) cap (c .before .grows .result) (c .before .grows .ensures) in
-          step-stays T start P (a .head .n) (a .rest) (a .rows) (a .head .exponents) (a .room) (a .a) (a .work .now) (a .out .now) (a .w) S (q .0 .variables) six (table-wide (q .0)) (q .0 .holds) base base-is (k .result) (k .last .0) (k .kept .0) (k .ensures .0) (k .ensures .1) (k .ensures .2) cap (fresh-is ∙ not-true _ (c .if1 .taken)),
+      λ T start P S. step-stays S (step-start t d .pre .1 .0) (k .last .0) (k .kept .0) (k .ensures) (c .before .grows .ensures) (not-true _ (c .if1 .taken)),
     )
 
-step-add-repeat : (t : ℕ) → step-lts.Need-add-repeat (
-  take-tails-reads.Asked,
-  take-tails-reads.Learnt,
-  grows-reads.Asked,
-  grows-reads.Learnt,
-  repeat-reads.Asked,
-  repeat-reads.Learnt,
-  level-below t,
-  level.Post,
-  compact-reads.Asked,
-  compact-reads.Learnt,
-) (step-at t) step.Post
-step-add-repeat t c = search needs
+step-add-k : (t : ℕ) → step-lts.Need-add-k (step-claims t) (step-at t) step.Post
+step-add-k t c = search needs
 
-step-sub-repeat : (t : ℕ) → step-lts.Need-sub-repeat (
-  take-tails-reads.Asked,
-  take-tails-reads.Learnt,
-  grows-reads.Asked,
-  grows-reads.Learnt,
-  repeat-reads.Asked,
-  repeat-reads.Learnt,
-  level-below t,
-  level.Post,
-  compact-reads.Asked,
-  compact-reads.Learnt,
-) (step-at t) step.Post
-step-sub-repeat t c = search needs
+step-sub-k : (t : ℕ) → step-lts.Need-sub-k (step-claims t) (step-at t) step.Post
+step-sub-k t c = search needs
 
-step-repeat-requires : (t : ℕ) → step-lts.Need-repeat-requires (
-  take-tails-reads.Asked,
-  take-tails-reads.Learnt,
-  grows-reads.Asked,
-  grows-reads.Learnt,
-  repeat-reads.Asked,
-  repeat-reads.Learnt,
-  level-below t,
-  level.Post,
-  compact-reads.Asked,
-  compact-reads.Learnt,
-) (step-at t) step.Post
+-- the block ends where the rows end, at a head not above a
+step-repeat-requires : (t : ℕ) → step-lts.Need-repeat-requires (step-claims t) (step-at t) step.Post
 step-repeat-requires t c κs =
-    let s = c .before .before .before .before .before .before .before .before .before .before .before .before .before in let a = s .args in let q = s .pre .1 in
-    let e6 : length (a .head .exponents) ≡ 6 = search needs in
-    let S = q .7 .3 in
-    let f = few (q .7 .0) (q .7 .1) (q .7 .2) (a .head .n) (a .rest) (a .rows) (a .head .exponents) (a .room) (a .a) (a .work .now) (a .out .now) (a .w) S (q .0 .variables) (omega (arith, q .0 .six)) (table-wide (q .0)) (q .0 .holds) in
-    let g = tails-wide (q .0) in
-    (omega (arith, S .block), S .within, q .0 .holds, q .0 .most, omega (arith, q .0 .variables), omega arith, omega (arith, S .last, walk-last (λ H. slices (a .rest) H) (q .7 .0) (a .a)))
+    let s = step-start t (c .before .before .before .before .before .before) in
+    let q = s .pre .1 in
+    let x = step-sizes t s in
+    (x .block, q .7 .3 .within, q .0 .holds, q .0 .most, omega (arith, q .0 .variables), omega (arith, q .2), omega (arith, q .2))
 
-step-same-length-3 : (t : ℕ) → step-lts.Need-same-length-3 (
-  take-tails-reads.Asked,
-  take-tails-reads.Learnt,
-  grows-reads.Asked,
-  grows-reads.Learnt,
-  repeat-reads.Asked,
-  repeat-reads.Learnt,
-  level-below t,
-  level.Post,
-  compact-reads.Asked,
-  compact-reads.Learnt,
-) (step-at t) step.Post
+step-same-length-3 : (t : ℕ) → step-lts.Need-same-length-3 (step-claims t) (step-at t) step.Post
 step-same-length-3 t c = search needs
 
-step-same-length-4 : (t : ℕ) → step-lts.Need-same-length-4 (
-  take-tails-reads.Asked,
-  take-tails-reads.Learnt,
-  grows-reads.Asked,
-  grows-reads.Learnt,
-  repeat-reads.Asked,
-  repeat-reads.Learnt,
-  level-below t,
-  level.Post,
-  compact-reads.Asked,
-  compact-reads.Learnt,
-) (step-at t) step.Post
+step-same-length-4 : (t : ℕ) → step-lts.Need-same-length-4 (step-claims t) (step-at t) step.Post
 step-same-length-4 t c = search needs
 
-step-same-length-5 : (t : ℕ) → step-lts.Need-same-length-5 (
-  take-tails-reads.Asked,
-  take-tails-reads.Learnt,
-  grows-reads.Asked,
-  grows-reads.Learnt,
-  repeat-reads.Asked,
-  repeat-reads.Learnt,
-  level-below t,
-  level.Post,
-  compact-reads.Asked,
-  compact-reads.Learnt,
-) (step-at t) step.Post
+step-same-length-5 : (t : ℕ) → step-lts.Need-same-length-5 (step-claims t) (step-at t) step.Post
 step-same-length-5 t c = search needs
 
-step-returns-2 : (t : ℕ) → step-lts.Need-returns-2 (
-  take-tails-reads.Asked,
-  take-tails-reads.Learnt,
-  grows-reads.Asked,
-  grows-reads.Learnt,
-  repeat-reads.Asked,
-  repeat-reads.Learnt,
-  level-below t,
-  level.Post,
-  compact-reads.Asked,
-  compact-reads.Learnt,
-) (step-at t) step.Post
+-- no room for the block repeated
+step-returns-2 : (t : ℕ) → step-lts.Need-returns-2 (step-claims t) (step-at t) step.Post
 step-returns-2 t c =
-    let s = c .before .before .before .before .before .before .before .before .before .before .before .before .before .before .before .before .before in let a = s .args in let q = s .pre .1 in
-    let e6 : length (a .head .exponents) ≡ 6 = search needs in
-    let g = tails-wide (q .0) in
-    let k = c .before .before .before .before .before .before .before .before .before .before .take-tails in
-    let base : ℕ = a .rows * (a .rest + 1) in
-    let base-is : base ≡ a .rows * suc (a .rest) = omega arith in
-    let six : a .head .n ≤ length (a .head .exponents) = omega (arith, q .0 .six) in
-    let cap : base + a .rows * a .rest ≤ length (a .work .now) = omega arith in (
+    let r = c .before .before .before .repeat in
+    let e = c .before .before .before .before .before in
+    let d = step-tails t e in
+    let k = d .take-tails in
+    let s = step-start t d in (
       refl,
-      λ T start P S.
-          let fresh-is = grows-as T start P (a .head .n) (a .rest) (a .rows) (a .head .exponents) (a .room) (a .a) (a .work .now) (a .out .now) (a .w) S (q .0 .variables) six (table-wide (q .0)) (q .0 .holds) base base-is (k .result) (k .last .0) (k .kept .0) (k .ensures .0) (k .ensures .1) (k .ensures .2) cap (c .before .before .before .before .before .before .grows .result) (c .before .before .before .before .before .before .grows .ensures) in
-          step-full T start P (a .head .n) (a .rest) (a .rows) (a .head .exponents) (a .room) (a .a) (a .work .now) (a .out .now) (a .w) S (q .0 .variables) six (table-wide (q .0)) (q .0 .holds) base base-is (k .result) (k .last .0) (k .kept .0) (k .ensures .0) (k .ensures .1) (k .ensures .2) cap (fresh-is ∙ not-false _ (c .before .before .before .before .before .if1 .left)) (a .head .n - (a .rest + 1)) (omega arith) (c .before .before .before .repeat .result) (c .before .before .before .repeat .last .0) (c .before .before .before .repeat .ensures .0) (c .before .before .before .repeat .ensures .1) (c .if2 .taken) (c .before .before .before .repeat .last .0),
+      λ T start P S. step-full S (s .pre .1 .0) (k .last .0) (k .kept .0) (k .ensures) (e .before .grows .ensures) (not-false _ (e .if1 .left)) (step-six t s)
+          (r .last .0) (r .ensures) (c .if2 .taken) _,
     )
 
-step-cast-longer : (t : ℕ) → step-lts.Need-cast-longer (
-  take-tails-reads.Asked,
-  take-tails-reads.Learnt,
-  grows-reads.Asked,
-  grows-reads.Learnt,
-  repeat-reads.Asked,
-  repeat-reads.Learnt,
-  level-below t,
-  level.Post,
-  compact-reads.Asked,
-  compact-reads.Learnt,
-) (step-at t) step.Post
-step-cast-longer t c = search needs
-
-step-add-longer : (t : ℕ) → step-lts.Need-add-longer (
-  take-tails-reads.Asked,
-  take-tails-reads.Learnt,
-  grows-reads.Asked,
-  grows-reads.Learnt,
-  repeat-reads.Asked,
-  repeat-reads.Learnt,
-  level-below t,
-  level.Post,
-  compact-reads.Asked,
-  compact-reads.Learnt,
-) (step-at t) step.Post
-step-add-longer t c = search needs
-
-step-sub-longer : (t : ℕ) → step-lts.Need-sub-longer (
-  take-tails-reads.Asked,
-  take-tails-reads.Learnt,
-  grows-reads.Asked,
-  grows-reads.Learnt,
-  repeat-reads.Asked,
-  repeat-reads.Learnt,
-  level-below t,
-  level.Post,
-  compact-reads.Asked,
-  compact-reads.Learnt,
-) (step-at t) step.Post
-step-sub-longer t c = search needs
-
-step-element-write-longer : (t : ℕ) → step-lts.Need-element-write-longer (
-  take-tails-reads.Asked,
-  take-tails-reads.Learnt,
-  grows-reads.Asked,
-  grows-reads.Learnt,
-  repeat-reads.Asked,
-  repeat-reads.Learnt,
-  level-below t,
-  level.Post,
-  compact-reads.Asked,
-  compact-reads.Learnt,
-) (step-at t) step.Post
-step-element-write-longer t c = search needs
-
-step-add-all : (t : ℕ) → step-lts.Need-add-all (
-  take-tails-reads.Asked,
-  take-tails-reads.Learnt,
-  grows-reads.Asked,
-  grows-reads.Learnt,
-  repeat-reads.Asked,
-  repeat-reads.Learnt,
-  level-below t,
-  level.Post,
-  compact-reads.Asked,
-  compact-reads.Learnt,
-) (step-at t) step.Post
+-- no more generators than rows
+step-add-all : (t : ℕ) → step-lts.Need-add-all (step-claims t) (step-at t) step.Post
 step-add-all t c =
-    let s = c .before .before .before .before .before .before .before .before .before .before .before .before .before .before .before .before .before in let a = s .args in let q = s .pre .1 in
-    let e6 : length (a .head .exponents) ≡ 6 = search needs in
-    let S = q .7 .3 in
-    let f = few (q .7 .0) (q .7 .1) (q .7 .2) (a .head .n) (a .rest) (a .rows) (a .head .exponents) (a .room) (a .a) (a .work .now) (a .out .now) (a .w) S (q .0 .variables) (omega (arith, q .0 .six)) (table-wide (q .0)) (q .0 .holds) in
-    let g = tails-wide (q .0) in
-    omega (arith, c .before .before .before .before .before .before .before .before .before .before .take-tails .ensures .0, q .0 .many)
+    let d = step-tails t (c .before .before .before .before .before) in
+    let s = step-start t d in
+    let x = step-sizes t s in
+    omega (arith, d .take-tails .ensures .0, s .pre .1 .0 .many)
 
-step-sub-level : (t : ℕ) → step-lts.Need-sub-level (
-  take-tails-reads.Asked,
-  take-tails-reads.Learnt,
-  grows-reads.Asked,
-  grows-reads.Learnt,
-  repeat-reads.Asked,
-  repeat-reads.Learnt,
-  level-below t,
-  level.Post,
-  compact-reads.Asked,
-  compact-reads.Learnt,
-) (step-at t) step.Post
+step-cast-with-exponent : (t : ℕ) → step-lts.Need-cast-with-exponent (step-claims t) (step-at t) step.Post
+step-cast-with-exponent t c = search needs
+
+step-with-exponent-requires : (t : ℕ) → step-lts.Need-with-exponent-requires (step-claims t) (step-at t) step.Post
+step-with-exponent-requires t c κs = search needs
+
+-- the lent part of work begins behind the table
+step-sub-level : (t : ℕ) → step-lts.Need-sub-level (step-claims t) (step-at t) step.Post
 step-sub-level t c =
-    let s = c .before .before .before .before .before .before .before .before .before .before .before .before .before .before .before .before .before in let a = s .args in let q = s .pre .1 in
-    let e6 : length (a .head .exponents) ≡ 6 = search needs in
-    let S = q .7 .3 in
-    let f = few (q .7 .0) (q .7 .1) (q .7 .2) (a .head .n) (a .rest) (a .rows) (a .head .exponents) (a .room) (a .a) (a .work .now) (a .out .now) (a .w) S (q .0 .variables) (omega (arith, q .0 .six)) (table-wide (q .0)) (q .0 .holds) in
-    let g = tails-wide (q .0) in
-    omega (arith, c .before .before .before .before .before .before .before .before .before .before .take-tails .kept .0)
+    let d = step-tails t (step-grown t (c)) in
+    let x = step-sizes t (step-start t d) in
+    omega (arith, d .take-tails .kept .0)
 
-step-part-level-start : (t : ℕ) → step-lts.Need-part-level-start (
-  take-tails-reads.Asked,
-  take-tails-reads.Learnt,
-  grows-reads.Asked,
-  grows-reads.Learnt,
-  repeat-reads.Asked,
-  repeat-reads.Learnt,
-  level-below t,
-  level.Post,
-  compact-reads.Asked,
-  compact-reads.Learnt,
-) (step-at t) step.Post
+step-part-level-start : (t : ℕ) → step-lts.Need-part-level-start (step-claims t) (step-at t) step.Post
 step-part-level-start t c =
-    let s = c .before .before .before .before .before .before .before .before .before .before .before .before .before .before .before .before .before in let a = s .args in let q = s .pre .1 in
-    let e6 : length (a .head .exponents) ≡ 6 = search needs in
-    let S = q .7 .3 in
-    let f = few (q .7 .0) (q .7 .1) (q .7 .2) (a .head .n) (a .rest) (a .rows) (a .head .exponents) (a .room) (a .a) (a .work .now) (a .out .now) (a .w) S (q .0 .variables) (omega (arith, q .0 .six)) (table-wide (q .0)) (q .0 .holds) in
-    let g = tails-wide (q .0) in
-    omega (arith, c .before .before .before .before .before .before .before .before .before .before .take-tails .kept .0)
+    let d = step-tails t (step-grown t (c)) in
+    let x = step-sizes t (step-start t d) in
+    omega (arith, d .take-tails .kept .0)
 
-step-part-level-end : (t : ℕ) → step-lts.Need-part-level-end (
-  take-tails-reads.Asked,
-  take-tails-reads.Learnt,
-  grows-reads.Asked,
-  grows-reads.Learnt,
-  repeat-reads.Asked,
-  repeat-reads.Learnt,
-  level-below t,
-  level.Post,
-  compact-reads.Asked,
-  compact-reads.Learnt,
-) (step-at t) step.Post
+step-part-level-end : (t : ℕ) → step-lts.Need-part-level-end (step-claims t) (step-at t) step.Post
 step-part-level-end t c = search needs
 
-step-mul-level : (t : ℕ) → step-lts.Need-mul-level (
-  take-tails-reads.Asked,
-  take-tails-reads.Learnt,
-  grows-reads.Asked,
-  grows-reads.Learnt,
-  repeat-reads.Asked,
-  repeat-reads.Learnt,
-  level-below t,
-  level.Post,
-  compact-reads.Asked,
-  compact-reads.Learnt,
-) (step-at t) step.Post
-step-mul-level t c =
-    let s = c .before .before .before .before .before .before .before .before .before .before .before .before .before .before .before .before .before .before in let a = s .args in let q = s .pre .1 in
-    let e6 : length (a .head .exponents) ≡ 6 = search needs in
-    let S = q .7 .3 in
-    let f = few (q .7 .0) (q .7 .1) (q .7 .2) (a .head .n) (a .rest) (a .rows) (a .head .exponents) (a .room) (a .a) (a .work .now) (a .out .now) (a .w) S (q .0 .variables) (omega (arith, q .0 .six)) (table-wide (q .0)) (q .0 .holds) in
-    let g = tails-wide (q .0) in
-    omega (arith, times-large (a .rows) (a .rest) (q .1), q .3)
+-- that of next behind the rows of the table
+step-mul-level : (t : ℕ) → step-lts.Need-mul-level (step-claims t) (step-at t) step.Post
+step-mul-level t c = let x = step-sizes t (step-start t (step-tails t (step-grown t (c .before)))) in omega arith
 
-step-sub-level-2 : (t : ℕ) → step-lts.Need-sub-level-2 (
-  take-tails-reads.Asked,
-  take-tails-reads.Learnt,
-  grows-reads.Asked,
-  grows-reads.Learnt,
-  repeat-reads.Asked,
-  repeat-reads.Learnt,
-  level-below t,
-  level.Post,
-  compact-reads.Asked,
-  compact-reads.Learnt,
-) (step-at t) step.Post
-step-sub-level-2 t c =
-    let s = c .before .before .before .before .before .before .before .before .before .before .before .before .before .before .before .before .before .before in let a = s .args in let q = s .pre .1 in
-    let e6 : length (a .head .exponents) ≡ 6 = search needs in
-    let S = q .7 .3 in
-    let f = few (q .7 .0) (q .7 .1) (q .7 .2) (a .head .n) (a .rest) (a .rows) (a .head .exponents) (a .room) (a .a) (a .work .now) (a .out .now) (a .w) S (q .0 .variables) (omega (arith, q .0 .six)) (table-wide (q .0)) (q .0 .holds) in
-    let g = tails-wide (q .0) in
-    omega (arith, times-large (a .rows) (a .rest) (q .1), q .3)
+step-sub-level-2 : (t : ℕ) → step-lts.Need-sub-level-2 (step-claims t) (step-at t) step.Post
+step-sub-level-2 t c = let x = step-sizes t (step-start t (step-tails t (step-grown t (c .before)))) in omega arith
 
-step-part-level-start-2 : (t : ℕ) → step-lts.Need-part-level-start-2 (
-  take-tails-reads.Asked,
-  take-tails-reads.Learnt,
-  grows-reads.Asked,
-  grows-reads.Learnt,
-  repeat-reads.Asked,
-  repeat-reads.Learnt,
-  level-below t,
-  level.Post,
-  compact-reads.Asked,
-  compact-reads.Learnt,
-) (step-at t) step.Post
-step-part-level-start-2 t c =
-    let s = c .before .before .before .before .before .before .before .before .before .before .before .before .before .before .before .before .before .before in let a = s .args in let q = s .pre .1 in
-    let e6 : length (a .head .exponents) ≡ 6 = search needs in
-    let S = q .7 .3 in
-    let f = few (q .7 .0) (q .7 .1) (q .7 .2) (a .head .n) (a .rest) (a .rows) (a .head .exponents) (a .room) (a .a) (a .work .now) (a .out .now) (a .w) S (q .0 .variables) (omega (arith, q .0 .six)) (table-wide (q .0)) (q .0 .holds) in
-    let g = tails-wide (q .0) in
-    omega (arith, times-large (a .rows) (a .rest) (q .1), q .3)
+step-part-level-start-2 : (t : ℕ) → step-lts.Need-part-level-start-2 (step-claims t) (step-at t) step.Post
+step-part-level-start-2 t c = let x = step-sizes t (step-start t (step-tails t (step-grown t (c .before)))) in omega arith
 
-step-part-level-end-2 : (t : ℕ) → step-lts.Need-part-level-end-2 (
-  take-tails-reads.Asked,
-  take-tails-reads.Learnt,
-  grows-reads.Asked,
-  grows-reads.Learnt,
-  repeat-reads.Asked,
-  repeat-reads.Learnt,
-  level-below t,
-  level.Post,
-  compact-reads.Asked,
-  compact-reads.Learnt,
-) (step-at t) step.Post
+step-part-level-end-2 : (t : ℕ) → step-lts.Need-part-level-end-2 (step-claims t) (step-at t) step.Post
 step-part-level-end-2 t c = search needs
 
-step-sub-level-3 : (t : ℕ) → step-lts.Need-sub-level-3 (
-  take-tails-reads.Asked,
-  take-tails-reads.Learnt,
-  grows-reads.Asked,
-  grows-reads.Learnt,
-  repeat-reads.Asked,
-  repeat-reads.Learnt,
-  level-below t,
-  level.Post,
-  compact-reads.Asked,
-  compact-reads.Learnt,
-) (step-at t) step.Post
+step-sub-level-3 : (t : ℕ) → step-lts.Need-sub-level-3 (step-claims t) (step-at t) step.Post
 step-sub-level-3 t c = search needs
 
-step-level-requires : (t : ℕ) → step-lts.Need-level-requires (
-  take-tails-reads.Asked,
-  take-tails-reads.Learnt,
-  grows-reads.Asked,
-  grows-reads.Learnt,
-  repeat-reads.Asked,
-  repeat-reads.Learnt,
-  level-below t,
-  level.Post,
-  compact-reads.Asked,
-  compact-reads.Learnt,
-) (step-at t) step.Post
+-- one variable less, no more rows, and what is left of both arrays
+step-level-requires : (t : ℕ) → step-lts.Need-level-requires (step-claims t) (step-at t) step.Post
 step-level-requires t c κs =
-    let s = c .before .before .before .before .before .before .before .before .before .before .before .before .before .before .before .before .before .before .before .before in let a = s .args in let q = s .pre .1 in
-    let e6 : length (a .head .exponents) ≡ 6 = search needs in
-    let S = q .7 .3 in
-    let f = few (q .7 .0) (q .7 .1) (q .7 .2) (a .head .n) (a .rest) (a .rows) (a .head .exponents) (a .room) (a .a) (a .work .now) (a .out .now) (a .w) S (q .0 .variables) (omega (arith, q .0 .six)) (table-wide (q .0)) (q .0 .holds) in
-    let g = tails-wide (q .0) in
-    let k = c .before .before .before .before .before .before .before .before .before .before .before .before .before .take-tails in
+    let v = c .before .before .before in
+    let r = v .before .before .before .before .repeat in
+    let d = step-tails t (step-grown t v) in
+    let k = d .take-tails in
+    let s = step-start t d in
+    let a = s .args in
+    let q = s .pre .1 in
+    let x = step-sizes t s in
+    let few : a .w .generators + k .result ≤ a .rows = omega (arith, k .ensures .0) in
     let n = lent-length (a .rows * (a .rest + 1)) (k .last .0) in
     let m = lent-length (a .rows) (a .next .now) in
-    let w : a .rows * a .rest ≡ a .rows * (a .rest - 1) + a .rows = times-less (a .rows) (a .rest) (q .1) in
-    let h : (a .w .generators + k .result) * (a .rest - 1) ≤ a .rows * (a .rest - 1) = rows-fewer (a .w .generators + k .result) (a .rows) (a .rest - 1) (omega (arith, k .ensures .0)) in
-    (omega (arith, s .pre .0), (next-roomy (q .0) (q .1) (a .w .generators + k .result) (omega (arith, k .ensures .0)) _ _ (c .before .before .before .before .before .before .repeat .result) (n ∙ omega (arith, k .kept .0)) (c .before .before .before .before .before .before .repeat .kept .0) (c .before .before .before .if2 .left), omega (arith, q .3)))
+    let w = times-less (a .rows) (a .rest) (q .1) in
+    let h = rows-fewer (a .w .generators + k .result) (a .rows) (a .rest - 1) few in (
+      omega (arith, s .pre .0),
+      (
+        rw (v .with-exponent .ensures .1) (next-roomy (q .0) (q .1) few (n ∙ omega (arith, k .kept .0)) (r .kept .0) (v .before .if2 .left)),
+        omega (arith, q .3),
+      ),
+    )
 
-step-same-length-6 : (t : ℕ) → step-lts.Need-same-length-6 (
-  take-tails-reads.Asked,
-  take-tails-reads.Learnt,
-  grows-reads.Asked,
-  grows-reads.Learnt,
-  repeat-reads.Asked,
-  repeat-reads.Learnt,
-  level-below t,
-  level.Post,
-  compact-reads.Asked,
-  compact-reads.Learnt,
-) (step-at t) step.Post
-step-same-length-6 t c = let a = c .before .before .before .before .before .before .before .before .before .before .before .before .before .before .before .before .before .before .before .before .before .before .before .before .before .before .before .before .args in let k = c .before .before .before .before .before .before .before .before .before .before .before .before .before .before .before .before .before .before .before .before .before .take-tails in let v = c .before .before .before .before .before .before .before .level in
+-- the generators lie in work, which is back at its length
+step-settle-requires : (t : ℕ) → step-lts.Need-settle-requires (step-claims t) (step-at t) step.Post
+step-settle-requires t c κs =
+    let v = c .before .before .before .before .before .before .before .before .before .before .before .before in
+    let l = c .before .before .before .before .before .before .before .before .level in
+    let r = v .before .before .before .before .repeat in
+    let d = step-tails t (step-grown t v) in
+    let k = d .take-tails in
+    let s = step-start t d in
+    let a = s .args in
+    let q = s .pre .1 in
+    let x = step-sizes t s in
     let base : ℕ = a .rows * (a .rest + 1) in
-    let same : length (putMid base (length (k .last .0) - base) (k .last .0) (v .last .0)) ≡ length (a .work .now) = same-len-mid base (length (k .last .0) - base) (k .last .0) (v .last .0) (v .kept .0) ∙ k .kept .0 in
-    same
+    let back = same-len-mid base (length (k .last .0) - base) (k .last .0) (l .last .0) (l .kept .0) in
+    let held = l .kept .1 .1 .1 .1 .1 .0 ∙ r .kept .0 in
+    let sum = add-mul (a .w .generators) (k .result) (a .rest) in
+    let more = ap (λ (y : ℕ). y * a .rest) (k .ensures .0) in
+    (omega (arith, q .0 .variables), appended-above (l .ensures) (v .before .if2 .left), omega (arith, q .0 .holds), omega (arith, k .kept .0))
 
-step-same-length-7 : (t : ℕ) → step-lts.Need-same-length-7 (
-  take-tails-reads.Asked,
-  take-tails-reads.Learnt,
-  grows-reads.Asked,
-  grows-reads.Learnt,
-  repeat-reads.Asked,
-  repeat-reads.Learnt,
-  level-below t,
-  level.Post,
-  compact-reads.Asked,
-  compact-reads.Learnt,
-) (step-at t) step.Post
+-- the lent part is back, and `settle` kept the length
+step-same-length-6 : (t : ℕ) → step-lts.Need-same-length-6 (step-claims t) (step-at t) step.Post
+step-same-length-6 t c =
+    let v = c .before .before .before .before .before .before .before .before .before .before .before .before .before .before .before in
+    let l = c .before .before .before .before .before .before .before .before .before .before .before .level in
+    let k = step-tails t (step-grown t v) .take-tails in
+    let a = step-start t (step-tails t (step-grown t v)) .args in
+    let base : ℕ = a .rows * (a .rest + 1) in
+    c .before .before .settle .kept .0 ∙ same-len-mid base (length (k .last .0) - base) (k .last .0) (l .last .0) (l .kept .0) ∙ k .kept .0
+
+step-same-length-7 : (t : ℕ) → step-lts.Need-same-length-7 (step-claims t) (step-at t) step.Post
 step-same-length-7 t c = search needs
 
-step-same-length-8 : (t : ℕ) → step-lts.Need-same-length-8 (
-  take-tails-reads.Asked,
-  take-tails-reads.Learnt,
-  grows-reads.Asked,
-  grows-reads.Learnt,
-  repeat-reads.Asked,
-  repeat-reads.Learnt,
-  level-below t,
-  level.Post,
-  compact-reads.Asked,
-  compact-reads.Learnt,
-) (step-at t) step.Post
+step-same-length-8 : (t : ℕ) → step-lts.Need-same-length-8 (step-claims t) (step-at t) step.Post
 step-same-length-8 t c = search needs
 
-step-returns-3 : (t : ℕ) → step-lts.Need-returns-3 (
-  take-tails-reads.Asked,
-  take-tails-reads.Learnt,
-  grows-reads.Asked,
-  grows-reads.Learnt,
-  repeat-reads.Asked,
-  repeat-reads.Learnt,
-  level-below t,
-  level.Post,
-  compact-reads.Asked,
-  compact-reads.Learnt,
-) (step-at t) step.Post
+-- the block of a is written behind the repeated one, or had no room
+step-returns-3 : (t : ℕ) → step-lts.Need-returns-3 (step-claims t) (step-at t) step.Post
 step-returns-3 t c =
-    let s = c .before .before .before .before .before .before .before .before .before .before .before .before .before .before .before .before .before .before .before .before .before .before .before .before .before .before .before .before in let a = s .args in let q = s .pre .1 in
-    let e6 : length (a .head .exponents) ≡ 6 = search needs in
-    let g = tails-wide (q .0) in
-    let k = c .before .before .before .before .before .before .before .before .before .before .before .before .before .before .before .before .before .before .before .before .before .take-tails in
-    let base : ℕ = a .rows * (a .rest + 1) in
-    let base-is : base ≡ a .rows * suc (a .rest) = omega arith in
-    let six : a .head .n ≤ length (a .head .exponents) = omega (arith, q .0 .six) in
-    let cap : base + a .rows * a .rest ≤ length (a .work .now) = omega arith in
-    let r = c .before .before .before .before .before .before .before .before .before .before .before .before .before .before .repeat in let v = c .before .before .before .before .before .before .before .level in
-    let large = times-large (a .rows) (a .rest) (q .1) in
-    let held : base ≤ length (k .last .0) = omega (arith, k .kept .0) in
-    let same : length (putMid base (length (k .last .0) - base) (k .last .0) (v .last .0)) ≡ length (a .work .now) = same-len-mid base (length (k .last .0) - base) (k .last .0) (v .last .0) (v .kept .0) ∙ k .kept .0 in (
-      take-put (a .rows) (length (a .next .now) - a .rows) (a .next .now) (v .last .1 .0) (omega (arith, q .3)),
-      λ T start P S.
-          let fresh-is = grows-as T start P (a .head .n) (a .rest) (a .rows) (a .head .exponents) (a .room) (a .a) (a .work .now) (a .out .now) (a .w) S (q .0 .variables) six (table-wide (q .0)) (q .0 .holds) base base-is (k .result) (k .last .0) (k .kept .0) (k .ensures .0) (k .ensures .1) (k .ensures .2) cap (c .before .before .before .before .before .before .before .before .before .before .before .before .before .before .before .before .before .grows .result) (c .before .before .before .before .before .before .before .before .before .before .before .before .before .before .before .before .before .grows .ensures) in
-          step-over T start P (a .head .n) (a .rest) (a .rows) (a .head .exponents) (a .room) (a .a) (a .work .now) (a .out .now) (a .w) S (q .0 .variables) six (table-wide (q .0)) (q .0 .holds) base base-is (k .result) (k .last .0) (k .kept .0) (k .ensures .0) (k .ensures .1) (k .ensures .2) cap (fresh-is ∙ not-false _ (c .before .before .before .before .before .before .before .before .before .before .before .before .before .before .before .before .if1 .left)) (a .head .n - (a .rest + 1)) (omega arith) (r .result) (r .last .0) (r .ensures .0) (r .ensures .1) (c .before .before .before .before .before .before .before .before .before .before .before .if2 .left) (take (length (k .last .0) - base) (drop base (k .last .0))) (lent-all base (k .last .0)) (set (a .head .exponents) (a .head .n - (a .rest + 1)) (a .a)) refl (v .result) (v .last .0) (v .last .1 .1 .1 .1 .1 .0) (q .1) (v .ensures) (c .if3 .taken) _ _ (take-put base (length (k .last .0) - base) (k .last .0) (v .last .0) held),
-    )
-
-step-sub-if4 : (t : ℕ) → step-lts.Need-sub-if4 (
-  take-tails-reads.Asked,
-  take-tails-reads.Learnt,
-  grows-reads.Asked,
-  grows-reads.Learnt,
-  repeat-reads.Asked,
-  repeat-reads.Learnt,
-  level-below t,
-  level.Post,
-  compact-reads.Asked,
-  compact-reads.Learnt,
-) (step-at t) step.Post
-step-sub-if4 t c = appended-above (c .before .before .before .before .before .before .before .level .ensures) (c .if3 .left)
-
-step-same-length-9 : (t : ℕ) → step-lts.Need-same-length-9 (
-  take-tails-reads.Asked,
-  take-tails-reads.Learnt,
-  grows-reads.Asked,
-  grows-reads.Learnt,
-  repeat-reads.Asked,
-  repeat-reads.Learnt,
-  level-below t,
-  level.Post,
-  compact-reads.Asked,
-  compact-reads.Learnt,
-) (step-at t) step.Post
-step-same-length-9 t c = let a = c .before .before .before .before .before .before .before .before .before .before .before .before .before .before .before .before .before .before .before .before .before .before .before .before .before .before .before .before .before .args in let k = c .before .before .before .before .before .before .before .before .before .before .before .before .before .before .before .before .before .before .before .before .before .before .take-tails in let v = c .before .before .before .before .before .before .before .before .level in
-    let base : ℕ = a .rows * (a .rest + 1) in
-    let same : length (putMid base (length (k .last .0) - base) (k .last .0) (v .last .0)) ≡ length (a .work .now) = same-len-mid base (length (k .last .0) - base) (k .last .0) (v .last .0) (v .kept .0) ∙ k .kept .0 in
-    same
-
-step-same-length-10 : (t : ℕ) → step-lts.Need-same-length-10 (
-  take-tails-reads.Asked,
-  take-tails-reads.Learnt,
-  grows-reads.Asked,
-  grows-reads.Learnt,
-  repeat-reads.Asked,
-  repeat-reads.Learnt,
-  level-below t,
-  level.Post,
-  compact-reads.Asked,
-  compact-reads.Learnt,
-) (step-at t) step.Post
-step-same-length-10 t c = search needs
-
-step-same-length-11 : (t : ℕ) → step-lts.Need-same-length-11 (
-  take-tails-reads.Asked,
-  take-tails-reads.Learnt,
-  grows-reads.Asked,
-  grows-reads.Learnt,
-  repeat-reads.Asked,
-  repeat-reads.Learnt,
-  level-below t,
-  level.Post,
-  compact-reads.Asked,
-  compact-reads.Learnt,
-) (step-at t) step.Post
-step-same-length-11 t c = c .before .before .before .before .before .before .before .before .level .kept .1 .1 .1 .1 .1 .0 ∙ c .before .before .before .before .before .before .before .before .before .before .before .before .before .before .before .repeat .kept .0
-
-step-returns-4 : (t : ℕ) → step-lts.Need-returns-4 (
-  take-tails-reads.Asked,
-  take-tails-reads.Learnt,
-  grows-reads.Asked,
-  grows-reads.Learnt,
-  repeat-reads.Asked,
-  repeat-reads.Learnt,
-  level-below t,
-  level.Post,
-  compact-reads.Asked,
-  compact-reads.Learnt,
-) (step-at t) step.Post
-step-returns-4 t c =
-    let s = c .before .before .before .before .before .before .before .before .before .before .before .before .before .before .before .before .before .before .before .before .before .before .before .before .before .before .before .before .before in let a = s .args in let q = s .pre .1 in
-    let e6 : length (a .head .exponents) ≡ 6 = search needs in
-    let g = tails-wide (q .0) in
-    let k = c .before .before .before .before .before .before .before .before .before .before .before .before .before .before .before .before .before .before .before .before .before .before .take-tails in
-    let base : ℕ = a .rows * (a .rest + 1) in
-    let base-is : base ≡ a .rows * suc (a .rest) = omega arith in
-    let six : a .head .n ≤ length (a .head .exponents) = omega (arith, q .0 .six) in
-    let cap : base + a .rows * a .rest ≤ length (a .work .now) = omega arith in
-    let r = c .before .before .before .before .before .before .before .before .before .before .before .before .before .before .before .repeat in let v = c .before .before .before .before .before .before .before .before .level in
-    let large = times-large (a .rows) (a .rest) (q .1) in
-    let held : base ≤ length (k .last .0) = omega (arith, k .kept .0) in
-    let same : length (putMid base (length (k .last .0) - base) (k .last .0) (v .last .0)) ≡ length (a .work .now) = same-len-mid base (length (k .last .0) - base) (k .last .0) (v .last .0) (v .kept .0) ∙ k .kept .0 in (
-      take-put (a .rows) (length (a .next .now) - a .rows) (a .next .now) (v .last .1 .0) (omega (arith, q .3)),
-      λ T start P S.
-          let fresh-is = grows-as T start P (a .head .n) (a .rest) (a .rows) (a .head .exponents) (a .room) (a .a) (a .work .now) (a .out .now) (a .w) S (q .0 .variables) six (table-wide (q .0)) (q .0 .holds) base base-is (k .result) (k .last .0) (k .kept .0) (k .ensures .0) (k .ensures .1) (k .ensures .2) cap (c .before .before .before .before .before .before .before .before .before .before .before .before .before .before .before .before .before .before .grows .result) (c .before .before .before .before .before .before .before .before .before .before .before .before .before .before .before .before .before .before .grows .ensures) in
-          step-keeps T start P (a .head .n) (a .rest) (a .rows) (a .head .exponents) (a .room) (a .a) (a .work .now) (a .out .now) (a .w) S (q .0 .variables) six (table-wide (q .0)) (q .0 .holds) base base-is (k .result) (k .last .0) (k .kept .0) (k .ensures .0) (k .ensures .1) (k .ensures .2) cap (fresh-is ∙ not-false _ (c .before .before .before .before .before .before .before .before .before .before .before .before .before .before .before .before .before .if1 .left)) (a .head .n - (a .rest + 1)) (omega arith) (r .result) (r .last .0) (r .ensures .0) (r .ensures .1) (c .before .before .before .before .before .before .before .before .before .before .before .before .if2 .left) (take (length (k .last .0) - base) (drop base (k .last .0))) (lent-all base (k .last .0)) (set (a .head .exponents) (a .head .n - (a .rest + 1)) (a .a)) refl (v .result) (v .last .0) (v .last .1 .1 .1 .1 .1 .0) (q .1) (v .ensures) (c .before .if3 .left) (c .if4 .taken) _ _ same (v .kept .0) refl,
-    )
-
-step-sub-compact : (t : ℕ) → step-lts.Need-sub-compact (
-  take-tails-reads.Asked,
-  take-tails-reads.Learnt,
-  grows-reads.Asked,
-  grows-reads.Learnt,
-  repeat-reads.Asked,
-  repeat-reads.Learnt,
-  level-below t,
-  level.Post,
-  compact-reads.Asked,
-  compact-reads.Learnt,
-) (step-at t) step.Post
-step-sub-compact t c = appended-above (c .before .before .before .before .before .before .before .before .before .before .level .ensures) (c .before .before .before .if3 .left)
-
-step-compact-requires : (t : ℕ) → step-lts.Need-compact-requires (
-  take-tails-reads.Asked,
-  take-tails-reads.Learnt,
-  grows-reads.Asked,
-  grows-reads.Learnt,
-  repeat-reads.Asked,
-  repeat-reads.Learnt,
-  level-below t,
-  level.Post,
-  compact-reads.Asked,
-  compact-reads.Learnt,
-) (step-at t) step.Post
-step-compact-requires t c κs =
-    let s = c .before .before .before .before .before .before .before .before .before .before .before .before .before .before .before .before .before .before .before .before .before .before .before .before .before .before .before .before .before .before .before in let a = s .args in let q = s .pre .1 in
-    let e6 : length (a .head .exponents) ≡ 6 = search needs in
-    let S = q .7 .3 in
-    let f = few (q .7 .0) (q .7 .1) (q .7 .2) (a .head .n) (a .rest) (a .rows) (a .head .exponents) (a .room) (a .a) (a .work .now) (a .out .now) (a .w) S (q .0 .variables) (omega (arith, q .0 .six)) (table-wide (q .0)) (q .0 .holds) in
-    let g = tails-wide (q .0) in
-    let k = c .before .before .before .before .before .before .before .before .before .before .before .before .before .before .before .before .before .before .before .before .before .before .before .before .take-tails in let r = c .before .before .before .before .before .before .before .before .before .before .before .before .before .before .before .before .before .repeat in let v = c .before .before .before .before .before .before .before .before .before .before .level in
-    let base : ℕ = a .rows * (a .rest + 1) in
-    let same : length (putMid base (length (k .last .0) - base) (k .last .0) (v .last .0)) ≡ length (a .work .now) = same-len-mid base (length (k .last .0) - base) (k .last .0) (v .last .0) (v .kept .0) ∙ k .kept .0 in
-    let whole : r .result + (v .result - r .result) ≡ v .result = omega (arith, appended-above (v .ensures) (c .before .before .before .if3 .left)) in
-    let out-length : length (v .last .1 .1 .1 .1 .1 .0) ≡ length (a .out .now) = v .kept .1 .1 .1 .1 .1 .0 ∙ r .kept .0 in
-    let m : v .result * a .head .n ≤ a .room * a .head .n = rows-fewer (v .result) (a .room) (a .head .n) (c .before .before .before .if3 .left) in
-    let n : (v .result - r .result) * a .rest ≤ a .rows * a .rest = rows-fewer (v .result - r .result) (a .rows) (a .rest) (omega (arith, k .ensures .0)) in
-    (rw whole (omega (arith, q .0 .holds)), omega (arith, q .0 .variables), omega arith)
-
-step-sub-t19 : (t : ℕ) → step-lts.Need-sub-t19 (
-  take-tails-reads.Asked,
-  take-tails-reads.Learnt,
-  grows-reads.Asked,
-  grows-reads.Learnt,
-  repeat-reads.Asked,
-  repeat-reads.Learnt,
-  level-below t,
-  level.Post,
-  compact-reads.Asked,
-  compact-reads.Learnt,
-) (step-at t) step.Post
-step-sub-t19 t c = appended-above (c .before .before .before .before .before .before .before .before .before .before .before .before .before .level .ensures) (c .before .before .before .before .before .before .if3 .left)
-
-step-same-length-12 : (t : ℕ) → step-lts.Need-same-length-12 (
-  take-tails-reads.Asked,
-  take-tails-reads.Learnt,
-  grows-reads.Asked,
-  grows-reads.Learnt,
-  repeat-reads.Asked,
-  repeat-reads.Learnt,
-  level-below t,
-  level.Post,
-  compact-reads.Asked,
-  compact-reads.Learnt,
-) (step-at t) step.Post
-step-same-length-12 t c = let a = c .before .before .before .before .before .before .before .before .before .before .before .before .before .before .before .before .before .before .before .before .before .before .before .before .before .before .before .before .before .before .before .before .before .before .args in let k = c .before .before .before .before .before .before .before .before .before .before .before .before .before .before .before .before .before .before .before .before .before .before .before .before .before .before .before .take-tails in let v = c .before .before .before .before .before .before .before .before .before .before .before .before .before .level in
-    let base : ℕ = a .rows * (a .rest + 1) in
-    let same : length (putMid base (length (k .last .0) - base) (k .last .0) (v .last .0)) ≡ length (a .work .now) = same-len-mid base (length (k .last .0) - base) (k .last .0) (v .last .0) (v .kept .0) ∙ k .kept .0 in
-    c .before .before .compact .kept .0 ∙ same
-
-step-same-length-13 : (t : ℕ) → step-lts.Need-same-length-13 (
-  take-tails-reads.Asked,
-  take-tails-reads.Learnt,
-  grows-reads.Asked,
-  grows-reads.Learnt,
-  repeat-reads.Asked,
-  repeat-reads.Learnt,
-  level-below t,
-  level.Post,
-  compact-reads.Asked,
-  compact-reads.Learnt,
-) (step-at t) step.Post
-step-same-length-13 t c = search needs
-
-step-same-length-14 : (t : ℕ) → step-lts.Need-same-length-14 (
-  take-tails-reads.Asked,
-  take-tails-reads.Learnt,
-  grows-reads.Asked,
-  grows-reads.Learnt,
-  repeat-reads.Asked,
-  repeat-reads.Learnt,
-  level-below t,
-  level.Post,
-  compact-reads.Asked,
-  compact-reads.Learnt,
-) (step-at t) step.Post
-step-same-length-14 t c = c .before .before .before .before .before .before .before .before .before .before .before .before .before .level .kept .1 .1 .1 .1 .1 .0 ∙ c .before .before .before .before .before .before .before .before .before .before .before .before .before .before .before .before .before .before .before .before .repeat .kept .0
-
-step-returns-5 : (t : ℕ) → step-lts.Need-returns-5 (
-  take-tails-reads.Asked,
-  take-tails-reads.Learnt,
-  grows-reads.Asked,
-  grows-reads.Learnt,
-  repeat-reads.Asked,
-  repeat-reads.Learnt,
-  level-below t,
-  level.Post,
-  compact-reads.Asked,
-  compact-reads.Learnt,
-) (step-at t) step.Post
-step-returns-5 t c =
-    let s = c .before .before .before .before .before .before .before .before .before .before .before .before .before .before .before .before .before .before .before .before .before .before .before .before .before .before .before .before .before .before .before .before .before .before in let a = s .args in let q = s .pre .1 in
-    let e6 : length (a .head .exponents) ≡ 6 = search needs in
-    let g = tails-wide (q .0) in
-    let k = c .before .before .before .before .before .before .before .before .before .before .before .before .before .before .before .before .before .before .before .before .before .before .before .before .before .before .before .take-tails in
-    let base : ℕ = a .rows * (a .rest + 1) in
-    let base-is : base ≡ a .rows * suc (a .rest) = omega arith in
-    let six : a .head .n ≤ length (a .head .exponents) = omega (arith, q .0 .six) in
-    let cap : base + a .rows * a .rest ≤ length (a .work .now) = omega arith in
-    let r = c .before .before .before .before .before .before .before .before .before .before .before .before .before .before .before .before .before .before .before .before .repeat in let v = c .before .before .before .before .before .before .before .before .before .before .before .before .before .level in
-    let large = times-large (a .rows) (a .rest) (q .1) in
-    let held : base ≤ length (k .last .0) = omega (arith, k .kept .0) in
-    let same : length (putMid base (length (k .last .0) - base) (k .last .0) (v .last .0)) ≡ length (a .work .now) = same-len-mid base (length (k .last .0) - base) (k .last .0) (v .last .0) (v .kept .0) ∙ k .kept .0 in (
-      take-put (a .rows) (length (a .next .now) - a .rows) (a .next .now) (v .last .1 .0) (omega (arith, q .3)),
-      λ T start P S.
-          let fresh-is = grows-as T start P (a .head .n) (a .rest) (a .rows) (a .head .exponents) (a .room) (a .a) (a .work .now) (a .out .now) (a .w) S (q .0 .variables) six (table-wide (q .0)) (q .0 .holds) base base-is (k .result) (k .last .0) (k .kept .0) (k .ensures .0) (k .ensures .1) (k .ensures .2) cap (c .before .before .before .before .before .before .before .before .before .before .before .before .before .before .before .before .before .before .before .before .before .before .before .grows .result) (c .before .before .before .before .before .before .before .before .before .before .before .before .before .before .before .before .before .before .before .before .before .before .before .grows .ensures) in
-          step-takes T start P (a .head .n) (a .rest) (a .rows) (a .head .exponents) (a .room) (a .a) (a .work .now) (a .out .now) (a .w) S (q .0 .variables) six (table-wide (q .0)) (q .0 .holds) base base-is (k .result) (k .last .0) (k .kept .0) (k .ensures .0) (k .ensures .1) (k .ensures .2) cap (fresh-is ∙ not-false _ (c .before .before .before .before .before .before .before .before .before .before .before .before .before .before .before .before .before .before .before .before .before .before .if1 .left)) (a .head .n - (a .rest + 1)) (omega arith) (r .result) (r .last .0) (r .ensures .0) (r .ensures .1) (c .before .before .before .before .before .before .before .before .before .before .before .before .before .before .before .before .before .if2 .left) (take (length (k .last .0) - base) (drop base (k .last .0))) (lent-all base (k .last .0)) (set (a .head .exponents) (a .head .n - (a .rest + 1)) (a .a)) refl (v .result) (v .last .0) (v .last .1 .1 .1 .1 .1 .0) (q .1) (v .ensures) (c .before .before .before .before .before .before .if3 .left) (omega arith) (putMid base (length (k .last .0) - base) (k .last .0) (v .last .0)) _ (c .before .before .compact .kept .0 ∙ same) (take-put base (length (k .last .0) - base) (k .last .0) (v .last .0) held) (c .before .before .compact .ensures),
+    let v = c .before .before .before .before .before .before .before .before .before .before .before .before .before .before .before in
+    let l = c .before .before .before .before .before .before .before .before .before .before .before .level in
+    let z = c .before .before .settle in
+    let r = v .before .before .before .before .repeat in
+    let e = step-grown t v in
+    let d = step-tails t e in
+    let k = d .take-tails in
+    let s = step-start t d in
+    let a = s .args in
+    let q = s .pre .1 in
+    let x = step-sizes t s in (
+      take-put (a .rows) (length (a .next .now) - a .rows) (a .next .now) (l .last .1 .0) (x .chained),
+      λ T start P S. step-settles S (q .0) (k .last .0) (k .kept .0) (k .ensures) (e .before .grows .ensures) (not-false _ (e .if1 .left)) (step-six t s)
+          (r .last .0) (r .ensures) (v .before .if2 .left) (r .kept .0) (q .1) (v .with-exponent .ensures) (l .ensures) (l .kept .0) (z .ensures) (z .kept .0),
     )
 
 pub +level+step-spec : {M : Type 1} → statement M
-+level+step-spec = close μ-level μ-step (λ t. level-lts.spec (
-  last-variable-reads.Asked,
-  last-variable-reads.Learnt,
-  chain-reads.Asked,
-  chain-reads.Learnt,
-  head-count-reads.Asked,
-  head-count-reads.Learnt,
-  step-below t,
-  step.Post,
-)
++level+step-spec = close μ-level μ-step (λ t. level-lts.spec (level-claims t)
     (level-at t)
     level.Post
     level-Inv-loop
@@ -1269,18 +507,7 @@ pub +level+step-spec : {M : Type 1} → statement M
     (level-same-length-7 t)
     (level-same-length-8 t)
     (level-returns-3 t))
-    λ t. step-lts.spec (
-      take-tails-reads.Asked,
-      take-tails-reads.Learnt,
-      grows-reads.Asked,
-      grows-reads.Learnt,
-      repeat-reads.Asked,
-      repeat-reads.Learnt,
-      level-below t,
-      level.Post,
-      compact-reads.Asked,
-      compact-reads.Learnt,
-    )
+    λ t. step-lts.spec (step-claims t)
     (step-at t)
     step.Post
     (step-add-base t)
@@ -1292,18 +519,16 @@ pub +level+step-spec : {M : Type 1} → statement M
     (step-same-length t)
     (step-same-length-2 t)
     (step-returns t)
-    (step-add-repeat t)
-    (step-sub-repeat t)
+    (step-add-k t)
+    (step-sub-k t)
     (step-repeat-requires t)
     (step-same-length-3 t)
     (step-same-length-4 t)
     (step-same-length-5 t)
     (step-returns-2 t)
-    (step-cast-longer t)
-    (step-add-longer t)
-    (step-sub-longer t)
-    (step-element-write-longer t)
     (step-add-all t)
+    (step-cast-with-exponent t)
+    (step-with-exponent-requires t)
     (step-sub-level t)
     (step-part-level-start t)
     (step-part-level-end t)
@@ -1313,19 +538,8 @@ pub +level+step-spec : {M : Type 1} → statement M
     (step-part-level-end-2 t)
     (step-sub-level-3 t)
     (step-level-requires t)
+    (step-settle-requires t)
     (step-same-length-6 t)
     (step-same-length-7 t)
     (step-same-length-8 t)
     (step-returns-3 t)
-    (step-sub-if4 t)
-    (step-same-length-9 t)
-    (step-same-length-10 t)
-    (step-same-length-11 t)
-    (step-returns-4 t)
-    (step-sub-compact t)
-    (step-compact-requires t)
-    (step-sub-t19 t)
-    (step-same-length-12 t)
-    (step-same-length-13 t)
-    (step-same-length-14 t)
-    (step-returns-5 t)

@@ -7,24 +7,24 @@
 --   length-body, length-table, flat-table   a table of it: the length of its body, its number of rows, its bytes again
 --   table-passes-checks      a table of it passes the checks 1 to 4 that every operation on a table begins with
 use mathlib.Core.Path.{_≡_, refl, sym, ap, _∙_, subst}
-use mathlib.Core.List.{List, _++_, List·Memᴰ, List·Memᴰ·head, Memᴰ·append-left, Memᴰ·append-right, List·Memᴰ·append-cases, List·Memᴰ·not-nil}
+use mathlib.Core.List.{List, _++_, List·Memᴰ, Memᴰ·append-left, Memᴰ·append-right, List·Memᴰ·append-cases, List·Memᴰ·not-nil}
 use mathlib.Core.Logic.{⊎-elim, by-cases}
 use Prim.Native.Nat.{ℕ, zero, suc, _+_, _*_, _-_, _/_, _≤_, _<_}
 use native.Mathlib.Nat.{mul-div-left}
-use native.Mathlib.Decide.{decLe, decLt}
+use native.Mathlib.Decide.{decLt}
 use native.Mathlib.Omega.{arith}
 use lib.Dec.{ltb}
 use lib.ListN.{length, take, drop, take-append-drop, drop-of-length-le, length-drop}
 use lib.Seq.{drop-drop, length-take-le}
-use Rattle.terms.specs.Tests.{any, tests-same, tests-as}
+use Rattle.terms.specs.Tests.{any, stable, tests-same, tests-as, tests-le}
 use Rattle.terms.specs.Rows.{flat}
-use Rattle.terms.specs.Refusals.{refusal, Accepts, NotOneToSix, NoMultiple, TooManyRows, EntryAbove50, tests-entryAbove50, tableChecks}
+use Rattle.terms.specs.Refusals.{refusal, Accepts, EntryAbove50, tests-entryAbove50, tableChecks}
 use Rattle.terms.proofs.RowsLaws.{length-rows, flat-rows}
-use Rattle.terms.proofs.RefusalLaws.{accepted, refusal-passes}
+use Rattle.terms.proofs.RefusalLaws.{accepted, accepts-refusal, accepts-head, accepts-left, accepts-right}
+use Rattle.terms.proofs.RefusalLaws.{refusal-none, refusal-passes, passes-first, accepts-table}
 use Rattle.bundle.specs.Some.{SomeBelow}
 use Rattle.bundle.specs.Format.{variablesOf, tableCount, headerLength, rowCount, offsetOf, bodyLength, placeOf, bodyOf, tableOf}
 use Rattle.bundle.specs.Checks.{LargeEntry, frameChecks, tableChecksOf, tablesChecks, remainChecks, layoutChecks, entryChecks, bundleChecks, largeEntryTest, tests-largeEntry}
-use Rattle.bundle.proofs.CheckLaws.{refusal-none, passes-first, accepts-left, accepts-right}
 use Rattle.bundle.proofs.CheckLaws.{Framed, framed-accepts, has-frame, frame-passes, TableLaid, tables-laid, table-passes}
 
 -- ---- the layout
@@ -52,7 +52,7 @@ laid-accepts b a =
       frame = frame;
       tables = each;
       ends = by-cases (decLt (placeOf b (tableCount b)) (length b))
-          (λ h. absurd (accepts-right (tablesChecks b 0 (tableCount b)) (remainChecks b) later _ (List·Memᴰ·head refl) h))
+          (λ h. absurd (accepts-head _ _ (accepts-right (tablesChecks b 0 (tableCount b)) (remainChecks b) later) h))
           (λ h. omega arith);
     }
 
@@ -127,8 +127,8 @@ pub accepted-by : (b : List ℕ) → Accepts (bundleChecks b) → Accepted b
 accepted-by b a =
     record {
       layout = laid-accepts b (accepts-left (layoutChecks b) (entryChecks b) a);
-      small = λ j x h m. by-cases (decLe x 50) (λ l. l)
-          (λ g. absurd (accepts-right (layoutChecks b) (entryChecks b) a _ (List·Memᴰ·head refl) (j, h, (x, m, omega arith))));
+      small = λ j x h m. stable (tests-le x 50)
+          (λ g. accepts-head _ _ (accepts-right (layoutChecks b) (entryChecks b) a) (j, h, (x, m, omega (arith, g))));
     }
 
 pub accepted-bundle : (b : List ℕ) → refusal (bundleChecks b) ≡ 0 → Accepted b
@@ -184,8 +184,10 @@ module _ (b : List ℕ) (a : Laid b) (j : ℕ) (h : j < tableCount b) where
 pub table-passes-checks : (b : List ℕ) → Accepted b → (j : ℕ) → j < tableCount b → refusal (tableChecks (variablesOf b) (bodyOf b j)) ≡ 0
 table-passes-checks b a j h =
     let l = a .layout in
-    let one : NotOneToSix (variablesOf b) → ⊥ = λ f. f (l .frame .someVariables, l .frame .fewVariables) in
-    let two : NoMultiple (variablesOf b) (bodyOf b j) → ⊥ = λ f. f (rowCount b j) (length-body b l j h) in
-    let three : TooManyRows (variablesOf b) (bodyOf b j) → ⊥ = λ f. omega (arith, length-table b l j h, l .tables j h .limited) in
-    let four : EntryAbove50 (bodyOf b j) → ⊥ = λ f. omega (arith, a .small j (f .0) h (f .1), f .2) in
-    refusal-passes _ _ one ∙ refusal-passes _ _ two ∙ refusal-passes _ _ three ∙ refusal-passes _ _ four ∙ refusal-none
+    accepts-refusal _ (accepts-table (variablesOf b) (bodyOf b j) (record {
+      some = l .frame .someVariables;
+      few = l .frame .fewVariables;
+      whole = length-body b l j h ∙ ap (λ (m : ℕ). m * variablesOf b) (sym (length-table b l j h));
+      limited = omega (arith, length-table b l j h, l .tables j h .limited);
+      small = λ e m. a .small j e h m;
+    }))

@@ -1,47 +1,26 @@
 -- Laws of the bundle's checks: what the code asks, step by step, is the list of checks in its order.
 --
---   refuses-first, passes-first   the refusal of a list in two parts
 --   Framed, framed           what is known of a bundle that passed 9 and 1
 --   frame-nine, frame-one, frame-passes   which check of the frame refuses
 --   table-three, table-ten, table-eleven, table-passes   which check of one table refuses
 --   TableLaid, table-laid    what is known of a table that passed 3, 10 and 11
 --   refuses-here, goes-on, past-last   the checks from table j on
 --   Passed, passed-..        the loop over the tables
-use mathlib.Core.Path.{_≡_, refl, sym, ap, _∙_, subst}
-use mathlib.Core.List.{List, [], _++_, append-assoc, List·Memᴰ·head, List·Memᴰ·tail, Memᴰ·append-left, Memᴰ·append-right}
+use mathlib.Core.Path.{_≡_, sym, ap, _∙_, subst}
+use mathlib.Core.List.{List, [], _++_, append-assoc}
 use mathlib.Core.Logic.{inl, inr, ⊎-elim, by-cases}
 use Prim.Native.Nat.{ℕ, zero, suc, _+_, _*_, _-_, _≤_, _<_}
 use native.Mathlib.Nat.{mul-le-mul, pos-of-ne-zero}
 use native.Mathlib.Numerals.{add-one}
-use native.Mathlib.Decide.{decLt, ℕ-discrete}
+use native.Mathlib.Decide.{ℕ-discrete}
 use native.Mathlib.Omega.{arith}
 use lib.ListN.{length}
-use Rattle.terms.specs.Tests.{decide, tests-le, tests-lt, tests-and}
+use Rattle.terms.specs.Tests.{stable, tests-le, tests-lt, tests-eq, tests-and}
 use Rattle.terms.specs.Refusals.{Check, refusal, Accepts, NotOneToSix}
-use Rattle.terms.proofs.RefusalLaws.{refusal-holds, refusal-passes, refusal-append, refusal-first, accepted}
+use Rattle.terms.proofs.RefusalLaws.{refusal-none, refusal-holds, refusal-passes, refusal-append, refusal-first, accepted}
+use Rattle.terms.proofs.RefusalLaws.{accepts-head, accepts-tail, accepts-left, accepts-right}
 use Rattle.bundle.specs.Format.{number16, variablesOf, tableCount, headerLength, rowCount, offsetOf, bodyLength, placeOf}
 use Rattle.bundle.specs.Checks.{NoFrame, frameChecks, tableChecksOf, tablesChecks, remainChecks}
-
--- ---- lists of checks
-
--- where no check is left nothing is refused
-pub refusal-none : refusal [] ≡ 0
-unfolding refusal
-refusal-none = refl
-
--- what the first part refuses is refused; where it passes, the second part decides
-pub refuses-first : (checks more : List Check) (m : ℕ) → m ≡ refusal checks → (m ≡ 0 → ⊥) → m ≡ refusal (checks ++ more)
-refuses-first checks more m e f = e ∙ sym (refusal-first checks more (rw e at (pos-of-ne-zero f)))
-
-pub passes-first : (checks more : List Check) (m : ℕ) → refusal checks ≡ 0 → m ≡ refusal more → m ≡ refusal (checks ++ more)
-passes-first checks more m e h = h ∙ sym (refusal-append checks more (accepted checks e))
-
--- what passes a list passes each part
-pub accepts-left : (checks more : List Check) → Accepts (checks ++ more) → Accepts checks
-accepts-left checks more a c m = a c (Memᴰ·append-left more m)
-
-pub accepts-right : (checks more : List Check) → Accepts (checks ++ more) → Accepts more
-accepts-right checks more a c m = a c (Memᴰ·append-right checks m)
 
 -- ---- the frame
 
@@ -56,20 +35,20 @@ pub record Framed (b : List ℕ) : Type 0 where
 
 framed-by : (b : List ℕ) → (NoFrame b → ⊥) → (NotOneToSix (variablesOf b) → ⊥) → Framed b
 framed-by b f g =
-    let tables = decide (tests-and (tests-lt 0 (tableCount b)) (λ p. tests-le (tableCount b) 16)) in
-    let variables = decide (tests-and (tests-lt 0 (variablesOf b)) (λ p. tests-le (variablesOf b) 6)) in
+    let tables = stable (tests-and (tests-lt 0 (tableCount b)) (λ p. tests-le (tableCount b) 16)) (λ h. f (inr (inr (inl h)))) in
+    let variables = stable (tests-and (tests-lt 0 (variablesOf b)) (λ p. tests-le (variablesOf b) 6)) g in
     record {
-      long = by-cases (decLt (length b) 2) (λ h. absurd (f (inl h))) (λ h. omega arith);
-      short = by-cases (decLt 65535 (length b)) (λ h. absurd (f (inr (inl h)))) (λ h. omega arith);
-      someTables = by-cases tables (λ h. h .0) (λ h. absurd (f (inr (inr (inl h)))));
-      fewTables = by-cases tables (λ h. h .1) (λ h. absurd (f (inr (inr (inl h)))));
-      header = by-cases (decLt (length b) (headerLength b)) (λ h. absurd (f (inr (inr (inr h))))) (λ h. omega arith);
-      someVariables = by-cases variables (λ h. h .0) (λ h. absurd (g h));
-      fewVariables = by-cases variables (λ h. h .1) (λ h. absurd (g h));
+      long = stable (tests-le 2 (length b)) (λ h. f (inl (omega (arith, h))));
+      short = stable (tests-le (length b) 65535) (λ h. f (inr (inl (omega (arith, h)))));
+      someTables = tables .0;
+      fewTables = tables .1;
+      header = stable (tests-le (headerLength b) (length b)) (λ h. f (inr (inr (inr (omega (arith, h))))));
+      someVariables = variables .0;
+      fewVariables = variables .1;
     }
 
 pub framed-accepts : (b : List ℕ) → Accepts (frameChecks b) → Framed b
-framed-accepts b a = framed-by b (a _ (List·Memᴰ·head refl)) (a _ (List·Memᴰ·tail (List·Memᴰ·head refl)))
+framed-accepts b a = framed-by b (accepts-head _ _ a) (accepts-head _ _ (accepts-tail _ _ a))
 
 pub framed : (b : List ℕ) → refusal (frameChecks b) ≡ 0 → Framed b
 framed b e = framed-accepts b (accepted (frameChecks b) e)
@@ -166,11 +145,13 @@ pub record TableLaid (b : List ℕ) (j : ℕ) : Type 0 where
   pub within : placeOf b j + bodyLength b j ≤ length b
 
 table-laid-accepts : (b : List ℕ) (j : ℕ) → Accepts (tableChecksOf b j) → TableLaid b j
-table-laid-accepts b j a = record {
-  limited = by-cases (decLt 4096 (rowCount b j)) (λ h. absurd (a _ (List·Memᴰ·head refl) h)) (λ h. omega arith);
-  begins = by-cases (ℕ-discrete (offsetOf b j) (placeOf b j)) (λ h. h) (λ h. absurd (a _ (List·Memᴰ·tail (List·Memᴰ·head refl)) h));
-  within = by-cases (decLt (length b) (placeOf b j + bodyLength b j)) (λ h. absurd (a _ (List·Memᴰ·tail (List·Memᴰ·tail (List·Memᴰ·head refl))) h)) (λ h. omega arith);
-}
+table-laid-accepts b j a =
+    let from10 = accepts-tail _ _ a in
+    record {
+      limited = stable (tests-le (rowCount b j) 4096) (λ h. accepts-head _ _ a (omega (arith, h)));
+      begins = stable (tests-eq (offsetOf b j) (placeOf b j)) (accepts-head _ _ from10);
+      within = stable (tests-le (placeOf b j + bodyLength b j) (length b)) (λ h. accepts-head _ _ (accepts-tail _ _ from10) (omega (arith, h)));
+    }
 
 pub table-laid : (b : List ℕ) (j : ℕ) → refusal (tableChecksOf b j) ≡ 0 → TableLaid b j
 table-laid b j e = table-laid-accepts b j (accepted (tableChecksOf b j) e)

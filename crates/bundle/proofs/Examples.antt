@@ -4,6 +4,7 @@ use mathlib.Core.List.{List, [], _∷_}
 use Prim.Native.Nat.{ℕ}
 use Rattle.terms.specs.Rows.{rows, firstRows, flat}
 use Rattle.terms.specs.Refusals.{refusal}
+use Rattle.terms.specs.ExampleTables.{tableD, bundleD}
 use Rattle.bundle.specs.Format.{rowCount, offsetOf, placeOf, tablesFrom, tablesOf, entriesOf, bodiesOf, bundleOf}
 use Rattle.bundle.specs.Checks.{tablesChecks, openChecks}
 
@@ -14,23 +15,20 @@ answer b j = refusal (openChecks b j)
 
 -- ---- the paper's bundle: rows 2 1 and 0 2
 
-abbrev listing : List ℕ
-listing = 2 ∷ 1 ∷ 2 ∷ 0 ∷ 6 ∷ 0 ∷ 2 ∷ 1 ∷ 0 ∷ 2 ∷ []
-
-listing-opens : answer listing 0 ≡ 0
+listing-opens : answer bundleD 0 ≡ 0
 unfolding answer
 listing-opens = refl
 
-listing-tables : tablesOf listing ≡ ((2 ∷ 1 ∷ []) ∷ (0 ∷ 2 ∷ []) ∷ []) ∷ []
+listing-tables : tablesOf bundleD ≡ tableD ∷ []
 unfolding tablesFrom rows firstRows placeOf rowCount
 listing-tables = refl
 
-listing-again : bundleOf 2 (((2 ∷ 1 ∷ []) ∷ (0 ∷ 2 ∷ []) ∷ []) ∷ []) ≡ listing
+listing-again : bundleOf 2 (tableD ∷ []) ≡ bundleD
 unfolding bundleOf entriesOf bodiesOf flat
 listing-again = refl
 
 -- it has no table 1
-listing-ends : answer listing 1 ≡ 5
+listing-ends : answer bundleD 1 ≡ 5
 unfolding answer
 listing-ends = refl
 

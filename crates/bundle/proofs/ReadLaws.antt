@@ -2,31 +2,32 @@
 --
 --   entry-four, entries-pass   4, decided by the pass over what stands behind the header
 --   opened-is, refused-is    the numbers of an opened table, and of a refused one
+--   opens-table              an accepted bundle that has a table j opens it
 --   locate-refused, locate-none, locate-opens   the three answers of `locate`
 --   open-accepted            an opened table is one of an accepted bundle
 --   locate-unique, open-unique   two results that the promise allows are equal
 --   found-within, body-shown, opens   what is located and cut out of the bundle is the table
 use mathlib.Core.Path.{_≡_, refl, sym, _∙_}
 use mathlib.Core.Bool.{Bool, true, false}
-use mathlib.Core.List.{List, [], List·Memᴰ·head}
+use mathlib.Core.List.{List, []}
 use mathlib.Core.Logic.{by-cases}
 use Prim.Native.Nat.{ℕ, _*_, _-_, _≤_, _<_}
-use native.Mathlib.Decide.{decLe, ℕ-discrete}
+use native.Mathlib.Decide.{ℕ-discrete}
 use native.Mathlib.Omega.{arith}
 use lib.Dec.{ltb}
 use lib.ListN.{length, take, drop, length-drop}
 use lib.Seq.{take-all}
 use borrow.Author.Tests.{ne-eqb}
-use Rattle.terms.specs.Tests.{any, true-tests, false-tests}
+use Rattle.terms.specs.Tests.{any, stable, true-tests, false-tests, tests-lt}
 use Rattle.terms.specs.Refusals.{refusal}
-use Rattle.terms.proofs.RefusalLaws.{refusal-holds, refusal-passes, accepted}
+use Rattle.terms.proofs.RefusalLaws.{refusal-none, refusal-holds, refusal-passes, refuses-first, passes-first}
+use Rattle.terms.proofs.RefusalLaws.{accepted, accepts-head, accepts-left, accepts-right}
 use Rattle.bundle.specs.Format.{variablesOf, tableCount, headerLength, rowCount, offsetOf, bodyLength, placeOf, bodyOf}
 use Rattle.bundle.specs.Checks.{numberChecks, openChecks, layoutChecks, entryChecks, bundleChecks, largeEntryTest, tests-largeEntry}
 use Rattle.bundle.specs.Operation.{opened, LocatePromise, FoundWithin, PartOf, OpenPromise, SameOpened}
 use Rattle.bundle.specs.declared.Located.{Located}
 use Rattle.bundle.specs.declared.OpenedTable.{OpenedTable}
 use denote.Ref.{RefT, now}
-use Rattle.bundle.proofs.CheckLaws.{refusal-none, refuses-first, passes-first, accepts-left, accepts-right}
 use Rattle.bundle.proofs.AcceptedLaws.{laid, entries-here, Accepted, accepted-by, accepted-bundle}
 
 -- ---- the reader
@@ -56,6 +57,11 @@ pub refused-is : {A : Type 0} (b : List ℕ) (j : ℕ) (x z : A) (m : ℕ) → m
 unfolding opened
 refused-is b j x z m e f = rw (← e, ne-eqb m 0 f)
 
+pub opens-table : (b : List ℕ) (j : ℕ) → refusal (bundleChecks b) ≡ 0 → j < tableCount b → 0 ≡ refusal (openChecks b j)
+opens-table b j e h =
+    let f : tableCount b ≤ j → ⊥ = λ x. omega arith in
+    passes-first (bundleChecks b) (numberChecks b j) 0 e (sym (refusal-passes _ _ f ∙ refusal-none))
+
 module _ (b : List ℕ) (j : ℕ) where
   refused-zeros : (m : ℕ) → m ≡ refusal (openChecks b j) → (m ≡ 0 → ⊥) → LocatePromise b j (record { refusal = m; n = 0; rows = 0; place = 0 })
   refused-zeros m e f = record {
@@ -77,8 +83,7 @@ module _ (b : List ℕ) (j : ℕ) where
   pub locate-opens : (n rows place : ℕ) → refusal (bundleChecks b) ≡ 0 → j < tableCount b → n ≡ variablesOf b → rows ≡ rowCount b j → place ≡ offsetOf b j
       → LocatePromise b j (record { refusal = 0; n = n; rows = rows; place = place })
   locate-opens n rows place e h v r o =
-      let f : tableCount b ≤ j → ⊥ = λ x. omega arith in
-      let p : 0 ≡ refusal (openChecks b j) = passes-first (bundleChecks b) (numberChecks b j) 0 e (sym (refusal-passes _ _ f ∙ refusal-none)) in
+      let p : 0 ≡ refusal (openChecks b j) = opens-table b j e h in
       let t = accepted-bundle b e .layout .tables j h in
       record {
         number = p;
@@ -92,7 +97,7 @@ pub open-accepted : (b : List ℕ) (j : ℕ) → refusal (openChecks b j) ≡ 0 
 open-accepted b j e =
     let a = accepted (openChecks b j) e in (
       accepted-by b (accepts-left (bundleChecks b) (numberChecks b j) a),
-      by-cases (decLe (tableCount b) j) (λ h. absurd (accepts-right (bundleChecks b) (numberChecks b j) a _ (List·Memᴰ·head refl) h)) (λ h. omega arith),
+      stable (tests-lt j (tableCount b)) (λ h. accepts-head _ _ (accepts-right (bundleChecks b) (numberChecks b j) a) (omega (arith, h))),
     )
 
 -- what is found lies within the bundle: the body of a table, or nothing at its start

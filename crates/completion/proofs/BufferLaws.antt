@@ -7,14 +7,13 @@
 --   fit-within, fit-beyond, beyond-fit, fit-part   room, and that running out of it is final
 --   walk-fit, walked-fit   a walk that has run out of room has the answer of the whole
 use mathlib.Core.Path.{_≡_, refl, sym, ap, _∙_}
-use mathlib.Core.Bool.{Bool}
 use mathlib.Core.List.{List, [], _∷_, _++_, map, append-assoc, Memᴰ·of-map}
 use mathlib.Core.Logic.{by-cases}
 use Prim.Native.Nat.{ℕ, zero, suc, _+_, _*_, _-_, _≤_, _<_}
 use native.Mathlib.Decide.{decLe}
 use native.Mathlib.Omega.{arith}
 use lib.ListN.{length, set, drop, length-append, length-map}
-use Rattle.terms.specs.Tests.{pick, tests-le, tests-true, tests-false}
+use Rattle.terms.specs.Tests.{pick-true, pick-false, tests-le}
 use Rattle.terms.specs.Monomials.{Monomial, Table, OfSize}
 use Rattle.terms.specs.Rows.{flat}
 use Rattle.completion.specs.Blocks.{behind, repeated}
@@ -106,11 +105,11 @@ after-repeated p b k B = after-append p (repeated b k B) (behind (b + k) B)
 
 pub fit-within : (room e : ℕ) → e ≤ room → fit room e ≡ e
 unfolding fit
-fit-within room e h = ap (λ (c : Bool). pick c e (suc room)) (sym (tests-true (tests-le e room) h))
+fit-within room e h = sym (pick-true (tests-le e room) e (suc room) h)
 
 pub fit-beyond : (room e : ℕ) → room < e → fit room e ≡ suc room
 unfolding fit
-fit-beyond room e h = ap (λ (c : Bool). pick c e (suc room)) (sym (tests-false (tests-le e room) (λ l. omega arith)))
+fit-beyond room e h = sym (pick-false (tests-le e room) e (suc room) (λ l. omega arith))
 
 pub beyond-fit : (room e : ℕ) → room < fit room e → room < e
 beyond-fit room e h = by-cases (decLe e room) (λ l. omega (arith, fit-within room e l)) (λ l. omega arith)

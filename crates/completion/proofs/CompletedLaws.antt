@@ -3,7 +3,9 @@
 --   tests-enters, tests-completed   the tests agree with rule 5
 --   candidate-before, -here, -behind   the exponents of the candidate
 --   completed-within       no exponent of a row of the completed table is above the largest given one
+--   largest-most           the largest exponents are at most what each given exponent is at most
 --   completed-table        `completed n G` is the completed table of the ideal of G
+--   completed-most         where no given exponent is above b, none of the completed table is
 --   completed-unique       there is one completed table of an ideal
 --   enters-ideal, completed-ideal, table-ideal, completed-same-ideal   only the ideal counts
 use mathlib.Core.Path.{_≡_, refl, sym, ap, _∙_}
@@ -11,15 +13,15 @@ use mathlib.Core.Bool.{Bool}
 use mathlib.Core.List.{List, [], _∷_, _++_, List·Memᴰ·head, List·Memᴰ·tail, List·Memᴰ·cases-cons, List·Memᴰ·not-nil}
 use mathlib.Core.Logic.{⊎-elim, by-cases}
 use Prim.Native.Nat.{ℕ, zero, suc, _+_, _-_, _≤_, _<_}
-use native.Mathlib.Nat.{not-suc-le-zero, le-of-suc-le-suc, le-max-left, le-max-right, suc-inj}
+use native.Mathlib.Nat.{not-suc-le-zero, le-of-suc-le-suc, le-max-left, le-max-right, max-le, suc-inj}
 use native.Mathlib.Decide.{decLe}
 use native.Mathlib.Omega.{arith}
-use lib.ListN.{length, getD, take, drop, length-append, length-drop, length-replicate, List·getD-append}
+use lib.ListN.{length, getD, take, drop, replicate, length-append, length-drop, length-replicate, List·getD-append}
 use lib.Seq.{length-take-le, getD-take, getD-drop, getD-append-add, getD-at}
 use Rattle.terms.specs.Tests.{Tests, tests-as, tests-and, tests-not, tests-implies, tests-lt, tests-eq, tests-each, tests-any, keep-in, keep-make}
-use Rattle.terms.specs.Monomials.{Monomial, Table, _!_, _∈_, OfSize, SameBefore, times}
+use Rattle.terms.specs.Monomials.{Monomial, Table, _!_, _∈_, OfSize, SameBefore, AtMost, times}
 use Rattle.terms.specs.Ideal.{Divides, Inside, SameIdeal}
-use Rattle.terms.proofs.MonomialLaws.{within, positive, three, at-or-other, length-times, times-same, times-other}
+use Rattle.terms.proofs.MonomialLaws.{within, positive, most-tail, three, at-or-other, length-times, times-same, times-other}
 use Rattle.terms.proofs.IdealLaws.{tests-divides, tests-inside, inside-up, same-ideal-sym}
 use Rattle.terms.proofs.OrderLaws.{ascending-unique}
 use Rattle.completion.specs.Blocks.{box}
@@ -162,6 +164,28 @@ largest-above n (v ∷ G) u m i = ⊎-elim
     (λ k. omega (arith, joined-above v (largest n G) i .1, largest-above n G u k i))
     (List·Memᴰ·cases-cons m)
 
+joined-most : (b : ℕ) (u v : Monomial) → AtMost b u → AtMost b v → AtMost b (joined u v)
+unfolding joined
+joined-most b u v f g zero = omega arith
+joined-most b [] v f g (suc i) = g (suc i)
+joined-most b (a ∷ u) [] f g (suc i) = f (suc i)
+joined-most b (a ∷ u) (d ∷ v) f g (suc zero) =
+    let x : a ≤ b = f 1 in
+    let y : d ≤ b = g 1 in
+    max-le x y
+joined-most b (a ∷ u) (d ∷ v) f g (suc (suc i)) = joined-most b u v (most-tail b a u f) (most-tail b d v g) (suc i)
+
+zeros-most : (b n : ℕ) → AtMost b (replicate n 0)
+zeros-most b n zero = omega arith
+zeros-most b zero (suc i) = omega arith
+zeros-most b (suc n) (suc zero) = omega arith
+zeros-most b (suc n) (suc (suc i)) = zeros-most b n (suc i)
+
+pub largest-most : (b n : ℕ) (G : Table) → ((u : Monomial) → u ∈ G → AtMost b u) → AtMost b (largest n G)
+unfolding largest
+largest-most b n [] f = zeros-most b n
+largest-most b n (u ∷ G) f = joined-most b u (largest n G) (f u (List·Memᴰ·head refl)) (largest-most b n G (λ v m. f v (List·Memᴰ·tail m)))
+
 -- Were u above the largest given exponent at i, the outside monomial would be at least that there, so raising it there would not let it enter.
 pub completed-within : (n : ℕ) (G : Table) (u : Monomial) → Completed n G u → (i : ℕ) → u ! i ≤ largest n G ! i
 completed-within n G u c i = by-cases (decLe (u ! i) (largest n G ! i)) (λ l. l) (λ l.
@@ -187,6 +211,10 @@ completed-table n G z =
           (tests-completed n G z u .complete c);
       ascends = ascending-keep f b (box-ascending (largest n G));
     }
+
+-- each exponent is at most the largest given one
+pub completed-most : (b n : ℕ) (G : Table) → OfSize n G → ((u : Monomial) → u ∈ G → AtMost b u) → (u : Monomial) → u ∈ completed n G → AtMost b u
+completed-most b n G z f u m i = omega (arith, completed-within n G u (completed-table n G z .only u m) i, largest-most b n G f i)
 
 -- ---- one table, and only the ideal counts
 

@@ -11,6 +11,7 @@ use lib.ListN.{length}
 use Rattle.terms.specs.Tests.{all, tests-all, tests-eq}
 use Rattle.terms.specs.Monomials.{Monomial, Table, OfSize}
 use Rattle.terms.specs.Rows.{rows}
+use Rattle.terms.specs.ExampleTables.{tableB, tableD, bytesD, completedD, tableE, completedE, tableF, completedF, tableI, completedI}
 use Rattle.completion.specs.Completed.{CompletedTable, completed}
 use Rattle.completion.specs.Operation.{roomFor, completeAnswer, completeBuffer, CompletePromise}
 use Rattle.completion.specs.declared.CompleteAnswer.{CompleteAnswer}
@@ -35,9 +36,6 @@ example-A-table = table-of 2 [] [] tt example-A
 
 -- ---- B: a row of zeros
 
-abbrev pub tableB : Table
-tableB = (0 ∷ 0 ∷ []) ∷ []
-
 pub example-B : completed 2 tableB ≡ tableB
 unfolding completed
 example-B = refl
@@ -46,12 +44,6 @@ pub example-B-table : CompletedTable 2 tableB tableB
 example-B-table = table-of 2 tableB tableB tt example-B
 
 -- ---- D: the listing of the paper
-
-abbrev pub tableD : Table
-tableD = (2 ∷ 1 ∷ []) ∷ (0 ∷ 2 ∷ []) ∷ []
-
-abbrev pub completedD : Table
-completedD = (0 ∷ 2 ∷ []) ∷ (1 ∷ 2 ∷ []) ∷ (2 ∷ 1 ∷ []) ∷ []
 
 pub example-D : completed 2 tableD ≡ completedD
 unfolding completed
@@ -62,25 +54,14 @@ example-D-table = table-of 2 tableD completedD tt example-D
 
 -- ---- E: one row twice
 
-abbrev pub tableE : Table
-tableE = (1 ∷ 0 ∷ []) ∷ (1 ∷ 0 ∷ []) ∷ []
-
-pub example-E : completed 2 tableE ≡ (1 ∷ 0 ∷ []) ∷ []
+pub example-E : completed 2 tableE ≡ completedE
 unfolding completed
 example-E = refl
 
-pub example-E-table : CompletedTable 2 tableE ((1 ∷ 0 ∷ []) ∷ [])
-example-E-table = table-of 2 tableE ((1 ∷ 0 ∷ []) ∷ []) tt example-E
+pub example-E-table : CompletedTable 2 tableE completedE
+example-E-table = table-of 2 tableE completedE tt example-E
 
 -- ---- H: document 002, example 5.2
-
-abbrev pub tableF : Table
-tableF = (0 ∷ 0 ∷ 2 ∷ []) ∷ (0 ∷ 1 ∷ 1 ∷ []) ∷ (0 ∷ 2 ∷ 0 ∷ []) ∷ (1 ∷ 0 ∷ 1 ∷ []) ∷ (3 ∷ 1 ∷ 0 ∷ []) ∷ []
-
-abbrev pub completedF : Table
-completedF =
-    (0 ∷ 0 ∷ 2 ∷ []) ∷ (0 ∷ 1 ∷ 1 ∷ []) ∷ (0 ∷ 2 ∷ 0 ∷ []) ∷ (1 ∷ 0 ∷ 1 ∷ []) ∷ (1 ∷ 1 ∷ 1 ∷ []) ∷ (1 ∷ 2 ∷ 0 ∷ []) ∷ (2 ∷ 0 ∷ 1 ∷ []) ∷ (2 ∷ 1 ∷ 1 ∷ [])
-    ∷ (2 ∷ 2 ∷ 0 ∷ []) ∷ (3 ∷ 0 ∷ 1 ∷ []) ∷ (3 ∷ 1 ∷ 0 ∷ []) ∷ []
 
 pub example-H : completed 3 tableF ≡ completedF
 unfolding completed
@@ -91,12 +72,6 @@ example-H-table = table-of 3 tableF completedF tt example-H
 
 -- ---- I: document 004, example 5.10, columns reversed
 
-abbrev pub tableI : Table
-tableI = (0 ∷ 1 ∷ 1 ∷ []) ∷ (1 ∷ 1 ∷ 0 ∷ []) ∷ (0 ∷ 2 ∷ 0 ∷ []) ∷ (3 ∷ 0 ∷ 0 ∷ []) ∷ []
-
-abbrev pub completedI : Table
-completedI = (0 ∷ 1 ∷ 1 ∷ []) ∷ (0 ∷ 2 ∷ 0 ∷ []) ∷ (1 ∷ 1 ∷ 0 ∷ []) ∷ (2 ∷ 1 ∷ 0 ∷ []) ∷ (3 ∷ 0 ∷ 0 ∷ []) ∷ []
-
 pub example-I : completed 3 tableI ≡ completedI
 unfolding completed
 example-I = refl
@@ -105,9 +80,6 @@ pub example-I-table : CompletedTable 3 tableI completedI
 example-I-table = table-of 3 tableI completedI tt example-I
 
 -- ---- J: D's rows with 6 bytes of room and with 5
-
-abbrev pub bytesD : List ℕ
-bytesD = 2 ∷ 1 ∷ 0 ∷ 2 ∷ []
 
 answer-six : completeAnswer 2 bytesD 6 ≡ Rows 3
 unfolding completeAnswer completed rows roomFor

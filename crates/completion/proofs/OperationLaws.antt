@@ -8,20 +8,19 @@
 --   room-fits              rows within the room fit the buffer
 --   room-enough, no-room   8 after the checks 1 to 4 passed, in terms of the completed table
 use mathlib.Core.Path.{_≡_, refl, sym, ap, _∙_, subst}
-use mathlib.Core.Bool.{Bool}
-use mathlib.Core.List.{List, [], _∷_, _++_, List·Memᴰ, List·Memᴰ·head, Memᴰ·append-right}
+use mathlib.Core.List.{List, [], _∷_, _++_}
 use mathlib.Core.Logic.{by-cases}
 use Prim.Native.Nat.{ℕ, zero, suc, _*_, _/_, _≤_, _<_}
 use native.Mathlib.Nat.{not-suc-le-zero, le-trans, min-le-left, min-le-right, mul-le-mul-right, div-mul-le-self}
-use native.Mathlib.Decide.{decLe, decLt}
+use native.Mathlib.Decide.{decLt}
 use native.Mathlib.Omega.{arith}
 use lib.ListN.{length, drop, length-append, length-drop}
 use lib.Seq.{drop-at}
-use Rattle.terms.specs.Tests.{pick, tests-eq, tests-true, tests-false}
+use Rattle.terms.specs.Tests.{stable, pick-true, pick-false, tests-le, tests-eq}
 use Rattle.terms.specs.Monomials.{Table, OfSize}
 use Rattle.terms.specs.Rows.{rows, firstRows, flat}
 use Rattle.terms.specs.Refusals.{Accepts, refusal, tableChecks}
-use Rattle.terms.proofs.RefusalLaws.{accepted, refusal-holds, refusal-passes, refusal-append}
+use Rattle.terms.proofs.RefusalLaws.{accepted, accepts-head, accepts-right, refusal-none, refusal-holds, refusal-passes, refusal-append}
 use Rattle.terms.proofs.RowsLaws.{rows-size, length-flat, firstRows-flat}
 use Rattle.completion.specs.Completed.{CompletedTable}
 use Rattle.completion.specs.Operation.{roomFor, completedOf, NoRoom, roomCheck, completeChecks, completeNumber, completeRows, completeCase}
@@ -63,24 +62,25 @@ pub complete-accepts : (n : ℕ) (table buffer : List ℕ) → refusal (complete
 unfolding completeAnswer completeBuffer
 complete-accepts n table buffer e = complete-make n table buffer
     (ap (λ (m : ℕ). completeCase m (length (completedOf n table))) (sym e))
-    (ap (λ (c : Bool). pick c (flat (completedOf n table) ++ drop (length (completedOf n table) * n) buffer) buffer)
-    (tests-true (tests-eq (refusal (completeChecks n table (length buffer))) 0) e))
+    (pick-true (tests-eq (refusal (completeChecks n table (length buffer))) 0)
+    (flat (completedOf n table) ++ drop (length (completedOf n table) * n) buffer) buffer e)
 
 pub complete-refuses : (n : ℕ) (table buffer : List ℕ) → 0 < refusal (completeChecks n table (length buffer)) →
     CompletePromise n table buffer (Refused (refusal (completeChecks n table (length buffer)))) buffer
 unfolding completeAnswer completeBuffer
 complete-refuses n table buffer p = complete-make n table buffer
     (sym (case-refused (refusal (completeChecks n table (length buffer))) (length (completedOf n table)) p))
-    (ap (λ (c : Bool). pick c (flat (completedOf n table) ++ drop (length (completedOf n table) * n) buffer) buffer)
-    (tests-false (tests-eq (refusal (completeChecks n table (length buffer))) 0) (λ e. omega arith)))
+    (pick-false (tests-eq (refusal (completeChecks n table (length buffer))) 0)
+    (flat (completedOf n table) ++ drop (length (completedOf n table) * n) buffer) buffer (λ e. omega arith))
 
 -- ---- after the checks 1 to 4
 
 pub room-enough : (n : ℕ) (table : List ℕ) (size : ℕ) → Accepts (tableChecks n table) → length (completedOf n table) ≤ roomFor n size →
     refusal (completeChecks n table size) ≡ 0
-unfolding refusal
 room-enough n table size a l =
-    refusal-append (tableChecks n table) (roomCheck n table size ∷ []) a ∙ refusal-passes (roomCheck n table size) [] (λ (h : NoRoom n table size). omega arith)
+    refusal-append (tableChecks n table) (roomCheck n table size ∷ []) a
+    ∙ refusal-passes (roomCheck n table size) [] (λ (h : NoRoom n table size). omega arith)
+    ∙ refusal-none
 
 pub no-room : (n : ℕ) (table : List ℕ) (size : ℕ) → Accepts (tableChecks n table) → NoRoom n table size → refusal (completeChecks n table size) ≡ 8
 no-room n table size a h = refusal-append (tableChecks n table) (roomCheck n table size ∷ []) a ∙ refusal-holds (roomCheck n table size) [] h
@@ -100,11 +100,8 @@ room-limited n size = min-le-left 4096 (size / n)
 
 -- a table that is accepted has room
 pub accepted-room : (n : ℕ) (table : List ℕ) (size : ℕ) → refusal (completeChecks n table size) ≡ 0 → length (completedOf n table) ≤ roomFor n size
-accepted-room n table size e = by-cases (decLe (length (completedOf n table)) (roomFor n size)) (λ l. l)
-    (λ g. absurd (accepted (completeChecks n table size) e (roomCheck n table size) last (omega arith)))
-  where
-    last : List·Memᴰ (roomCheck n table size) (completeChecks n table size)
-    last = Memᴰ·append-right (tableChecks n table) (List·Memᴰ·head refl)
+accepted-room n table size e = stable (tests-le (length (completedOf n table)) (roomFor n size)) (λ g. accepts-head (roomCheck n table size) []
+    (accepts-right (tableChecks n table) (roomCheck n table size ∷ []) (accepted (completeChecks n table size) e)) (omega (arith, g)))
 
 -- the completed rows have n exponents each
 pub completedOf-size : (n : ℕ) (table : List ℕ) → OfSize n (completedOf n table)

@@ -11,28 +11,20 @@ use native.Mathlib.Omega.{arith}
 use lib.IntN.{ℤ, pos, _+ℤ_, _-ℤ_, +ℤ-idr, +ℤ-negℤ-cancel, pos-+ℤ-pos}
 use Rattle.binomial.specs.Choose.{choose}
 use Rattle.binomial.proofs.ChooseLaws.{choose-one}
-use Rattle.terms.specs.Monomials.{Table, _!_, degree}
+use Rattle.terms.specs.Monomials.{_!_, degree}
+use Rattle.terms.specs.ExampleTables.{tableB, tableC, completedD}
 use Rattle.terms.specs.Ideal.{insideTest, dividesTest}
 use Rattle.division.proofs.Facade.{multiplicativeTest, marksCount}
 use Rattle.counting.specs.Counts.{sumℤ, raised, extended, monomialsUpTo, countAt, marksIn, oddTest, chooseℤ, signedShare, polynomialAt, steadyOf}
 use Rattle.counting.proofs.CountLaws.{count-zeros}
 use Rattle.counting.proofs.PolynomialLaws.{subℕ-pos}
 
-abbrev pub rowsB : Table
-rowsB = (0 ∷ 0 ∷ []) ∷ []
-
-abbrev pub rowsC : Table
-rowsC = (3 ∷ []) ∷ []
-
-abbrev pub rowsD : Table
-rowsD = (0 ∷ 2 ∷ []) ∷ (1 ∷ 2 ∷ []) ∷ (2 ∷ 1 ∷ []) ∷ []
-
 pub example-A : countAt 2 [] 1 ≡ 3
 unfolding countAt monomialsUpTo extended insideTest
 example-A = refl
 
-pub example-B : (s : ℕ) → countAt 2 rowsB s ≡ 0
-example-B s = count-zeros 2 rowsB (0 ∷ 0 ∷ []) (List·Memᴰ·head refl) zeros s
+pub example-B : (s : ℕ) → countAt 2 tableB s ≡ 0
+example-B s = count-zeros 2 tableB (0 ∷ 0 ∷ []) (List·Memᴰ·head refl) zeros s
   where
     zeros : (i : ℕ) → (0 ∷ 0 ∷ []) ! i ≡ 0
     zeros zero = refl
@@ -40,7 +32,7 @@ example-B s = count-zeros 2 rowsB (0 ∷ 0 ∷ []) (List·Memᴰ·head refl) zer
     zeros (suc (suc zero)) = refl
     zeros (suc (suc (suc i))) = refl
 
-pub example-C-count : countAt 1 rowsC 2 ≡ 3
+pub example-C-count : countAt 1 tableC 2 ≡ 3
 unfolding countAt monomialsUpTo extended raised insideTest dividesTest
 example-C-count = refl
 
@@ -55,7 +47,7 @@ all-C : (k : ℕ) → choose (1 + suc (suc k)) 1 ≡ 3 + k
 all-C k = choose-one (1 + suc (suc k)) ∙ omega arith
 
 -- C(s + 1, 1) less C(s − 2, 1): from 2 on s + 1 less s − 2, and at 0 and 1 it is computed.
-pub example-C-polynomial : (s : ℕ) → polynomialAt 1 rowsC s ≡ pos 3
+pub example-C-polynomial : (s : ℕ) → polynomialAt 1 tableC s ≡ pos 3
 unfolding polynomialAt sumℤ signedShare chooseℤ oddTest choose marksIn marksCount multiplicativeTest degree
 example-C-polynomial zero = refl
 example-C-polynomial (suc zero) = refl
@@ -63,6 +55,6 @@ example-C-polynomial (suc (suc k)) =
     ap₂ (λ (x y : ℤ). x -ℤ y) (ap pos (all-C k) ∙ sym (pos-+ℤ-pos 3 k)) (ap (λ (x : ℤ). x +ℤ pos 0) (share-C k) ∙ +ℤ-idr (pos k))
     ∙ +ℤ-negℤ-cancel (pos 3) (pos k)
 
-pub example-D : (countAt 2 rowsD 3 ≡ 6) × (countAt 2 rowsD 0 ≡ 1) × (polynomialAt 2 rowsD 0 ≡ pos 3) × (steadyOf rowsD ≡ 3)
+pub example-D : (countAt 2 completedD 3 ≡ 6) × (countAt 2 completedD 0 ≡ 1) × (polynomialAt 2 completedD 0 ≡ pos 3) × (steadyOf completedD ≡ 3)
 unfolding countAt monomialsUpTo extended raised insideTest dividesTest polynomialAt sumℤ signedShare chooseℤ oddTest choose marksIn steadyOf
 example-D = (refl, refl, refl, refl)

@@ -2,34 +2,33 @@
 --
 --   count-unique, polynomial-unique, steady-unique   two answers that a promise allows are equal
 --   count-refused, count-given ..  what an operation has to show, refused and accepted
---   table-first, table-passed      the checks 1 to 4 refuse, or they pass and the others decide
 --   late-5, late-passed, order-6, order-7, order-0   the checks 5, 6 and 7
 --   count-checked, steady-checked  what is known of a table that no check refuses
+--   can-mark, can-sum              so count and polynomial may mark it, and sum over it with its marks
 use mathlib.Core.Path.{_≡_, refl, sym, ap, _∙_}
-use mathlib.Core.List.{List, [], _∷_, _++_, List·Memᴰ·head, List·Memᴰ·tail}
-use mathlib.Core.Logic.{by-cases}
+use mathlib.Core.List.{List, [], _∷_, _++_}
 use Prim.Native.Nat.{ℕ, zero, suc, _≤_, _<_}
-use native.Mathlib.Decide.{decLe, decLt}
 use native.Mathlib.Omega.{arith}
-use lib.Dec.{lit<}
 use lib.IntN.{ℤ}
-use Rattle.terms.specs.Tests.{decide, tests-lt}
+use Rattle.terms.specs.Tests.{stable, tests-le}
 use Rattle.terms.specs.Order.{Ascending}
 use Rattle.terms.specs.Rows.{rows}
-use Rattle.terms.specs.Refusals.{Check, refusal, check, tableChecks}
+use Rattle.terms.specs.Refusals.{refusal, tableChecks}
 use Rattle.terms.proofs.OrderLaws.{tests-ascending}
-use Rattle.terms.proofs.RefusalLaws.{accepted, refusal-append, refusal-first, refusal-holds, refusal-passes, table-accepted}
-use Rattle.division.proofs.Facade.{Complete, tests-complete}
+use Rattle.terms.proofs.RefusalLaws.{accepted, refusal-none, refusal-holds, refusal-passes, accepts-head, accepts-tail, rest-passes}
+use Rattle.terms.proofs.RefusalLaws.{TableAccepted, table-listed}
+use Rattle.division.proofs.Facade.{NotAscending, orderCheck, Complete, tests-complete, tableMarks, Markable}
 use Rattle.counting.specs.Counts.{countAt, polynomialAt, steadyOf}
-use Rattle.counting.specs.Sums.{Checked}
-use Rattle.counting.specs.Operations.{orderChecks, countChecks, steadyChecks, CountPromise, countNumber, PolynomialPromise}
-use Rattle.counting.specs.Operations.{polynomialNumber, SteadyPromise, steadyNumber, tests-notAscending, tests-notComplete}
+use Rattle.counting.specs.Sums.{Checked, Marked}
+use Rattle.counting.specs.Operations.{Above300, NotComplete, degreeCheck, completeCheck, orderChecks, countChecks, steadyChecks}
+use Rattle.counting.specs.Operations.{CountPromise, countNumber, PolynomialPromise, polynomialNumber, SteadyPromise, steadyNumber}
 use Rattle.counting.specs.declared.CountAnswer.{CountAnswer}
 use Rattle.counting.specs.declared.CountAnswer.the-variants as count
 use Rattle.counting.specs.declared.PolynomialAnswer.{PolynomialAnswer}
 use Rattle.counting.specs.declared.PolynomialAnswer.the-variants as polynomial
 use Rattle.counting.specs.declared.SteadyAnswer.{SteadyAnswer}
 use Rattle.counting.specs.declared.SteadyAnswer.the-variants as steady
+use Rattle.counting.proofs.PassLaws.{marked-front}
 
 -- ---- one answer
 
@@ -90,67 +89,59 @@ module _ (n : ℕ) (table : List ℕ) (m : ℕ) (e : m ≡ refusal (steadyChecks
 
 -- ---- the checks, one after another
 
-module _ (n : ℕ) (table : List ℕ) (m : ℕ) (e : m ≡ refusal (tableChecks n table)) where
-  pub table-first : (checks : List Check) → (m ≡ 0 → ⊥) → m ≡ refusal (tableChecks n table ++ checks)
-  table-first checks f =
-      let p : 0 < refusal (tableChecks n table) = by-cases (decLt 0 (refusal (tableChecks n table))) (λ h. h) (λ g. absurd (f (omega arith))) in
-      e ∙ sym (refusal-first (tableChecks n table) checks p)
-
-  pub table-passed : (checks : List Check) → m ≡ 0 → refusal (tableChecks n table ++ checks) ≡ refusal checks
-  table-passed checks z = refusal-append (tableChecks n table) checks (accepted (tableChecks n table) (sym e ∙ z))
-
 module _ (n : ℕ) (table : List ℕ) where
-  pub order-6 : (Ascending (rows n table) → ⊥) → 6 ≡ refusal (orderChecks n table)
-  order-6 f = sym (refusal-holds _ _ f)
+  pub order-6 : NotAscending n table → 6 ≡ refusal (orderChecks n table)
+  order-6 f = sym (refusal-holds (orderCheck n table) (completeCheck n table ∷ []) f)
 
-  pub order-7 : Ascending (rows n table) → (Complete n (rows n table) → ⊥) → 7 ≡ refusal (orderChecks n table)
-  order-7 a f = sym (refusal-passes _ _ (λ g. g a) ∙ refusal-holds _ _ f)
+  -- past 6 the check 7 decides
+  past-6 : Ascending (rows n table) → refusal (orderChecks n table) ≡ refusal (completeCheck n table ∷ [])
+  past-6 a = refusal-passes (orderCheck n table) (completeCheck n table ∷ []) (λ g. g a)
+
+  pub order-7 : Ascending (rows n table) → NotComplete n table → 7 ≡ refusal (orderChecks n table)
+  order-7 a f = sym (past-6 a ∙ refusal-holds (completeCheck n table) [] f)
 
   pub order-0 : Ascending (rows n table) → Complete n (rows n table) → 0 ≡ refusal (orderChecks n table)
-  unfolding refusal
-  order-0 a c = sym (
-      refusal-passes (check 6 (lit< tt) (tests-notAscending n table)) (check 7 (lit< tt) (tests-notComplete n table) ∷ []) (λ g. g a)
-      ∙ refusal-passes (check 7 (lit< tt) (tests-notComplete n table)) [] (λ g. g c))
+  order-0 a c = sym (past-6 a ∙ refusal-passes (completeCheck n table) [] (λ g. g c) ∙ refusal-none)
 
-  -- what passes 6 and 7
-  order-checked : refusal (orderChecks n table) ≡ 0 → Ascending (rows n table) × Complete n (rows n table)
-  order-checked e =
-      let a = accepted (orderChecks n table) e in (
-        by-cases (decide (tests-ascending (rows n table))) (λ h. h)
-            (λ f. absurd (a (check 6 (lit< tt) (tests-notAscending n table)) (List·Memᴰ·head refl) f)),
-        by-cases (decide (tests-complete n (rows n table))) (λ h. h)
-            (λ f. absurd (a (check 7 (lit< tt) (tests-notComplete n table)) (List·Memᴰ·tail (List·Memᴰ·head refl)) f)),
-      )
+  -- what passes all
+  checked : TableAccepted n table → refusal (orderChecks n table) ≡ 0 → Checked n table
+  checked t e =
+      let a = accepted (orderChecks n table) e in
+      record {
+        accepted = t;
+        ascending = stable (tests-ascending (rows n table)) (accepts-head (orderCheck n table) (completeCheck n table ∷ []) a);
+        complete = stable (tests-complete n (rows n table))
+            (accepts-head (completeCheck n table) [] (accepts-tail (orderCheck n table) (completeCheck n table ∷ []) a));
+      }
 
--- where a list in two parts does not refuse, its first part does not
-first-passes : (earlier checks : List Check) → refusal (earlier ++ checks) ≡ 0 → refusal earlier ≡ 0
-first-passes earlier checks e = by-cases (decLt 0 (refusal earlier)) (λ h. omega (arith, refusal-first earlier checks h)) (λ g. omega arith)
-
-checked : (n : ℕ) (table : List ℕ) → refusal (tableChecks n table) ≡ 0 → refusal (orderChecks n table) ≡ 0 → Checked n table
-checked n table e f = record {
-  accepted = table-accepted n table (accepted (tableChecks n table) e);
-  ascending = order-checked n table f .0;
-  complete = order-checked n table f .1;
-}
-
-pub steady-checked : (n : ℕ) (table : List ℕ) → refusal (steadyChecks n table) ≡ 0 → Checked n table
-steady-checked n table e =
-    let f = first-passes (tableChecks n table) (orderChecks n table) e in
-    checked n table f (sym (table-passed n table 0 (sym f) (orderChecks n table) refl) ∙ e)
+  pub steady-checked : refusal (steadyChecks n table) ≡ 0 → Checked n table
+  steady-checked e = checked (table-listed n table (orderChecks n table) e) (rest-passes (tableChecks n table) (orderChecks n table) e)
 
 module _ (n : ℕ) (table : List ℕ) (s : ℕ) where
-  abbrev pub check5 : Check
-  check5 = check 5 (lit< tt) (tests-lt 300 s)
+  pub late-5 : Above300 s → 5 ≡ refusal (degreeCheck s ∷ orderChecks n table)
+  late-5 h = sym (refusal-holds (degreeCheck s) (orderChecks n table) h)
 
-  pub late-5 : 300 < s → 5 ≡ refusal (check5 ∷ orderChecks n table)
-  late-5 h = sym (refusal-holds check5 (orderChecks n table) h)
-
-  pub late-passed : s ≤ 300 → refusal (check5 ∷ orderChecks n table) ≡ refusal (orderChecks n table)
-  late-passed h = refusal-passes check5 (orderChecks n table) (λ g. omega arith)
+  pub late-passed : s ≤ 300 → refusal (degreeCheck s ∷ orderChecks n table) ≡ refusal (orderChecks n table)
+  late-passed h = refusal-passes (degreeCheck s) (orderChecks n table) (λ g. omega arith)
 
   pub count-checked : refusal (countChecks n table s) ≡ 0 → Checked n table × (s ≤ 300)
   count-checked e =
-      let f = first-passes (tableChecks n table) (check5 ∷ orderChecks n table) e in
-      let g : refusal (check5 ∷ orderChecks n table) ≡ 0 = sym (table-passed n table 0 (sym f) (check5 ∷ orderChecks n table) refl) ∙ e in
-      let h : s ≤ 300 = by-cases (decLe s 300) (λ x. x) (λ x. absurd (omega (arith, late-5 (omega arith)))) in
-      (checked n table f (sym (late-passed h) ∙ g), h)
+      let g = rest-passes (tableChecks n table) (degreeCheck s ∷ orderChecks n table) e in
+      let h : s ≤ 300 = stable (tests-le s 300) (λ f. omega (arith, late-5 (omega (arith, f)))) in
+      (checked n table (table-listed n table (degreeCheck s ∷ orderChecks n table) e) (sym (late-passed h) ∙ g), h)
+
+-- ---- what count and polynomial do once the number m of their checks is 0
+
+module _ (n : ℕ) (table : List ℕ) (s m : ℕ) (e : m ≡ refusal (countChecks n table s)) (z : m ≡ 0) where
+  passed : Checked n table × (s ≤ 300)
+  passed = count-checked n table s (sym e ∙ z)
+
+  -- they mark the table, into 4,096 bytes
+  pub can-mark : Markable n (rows n table) 4096 × Ascending (rows n table)
+  can-mark =
+      let t = passed .0 .accepted in
+      (record { some = t .some; few = t .few; limited = t .limited; room = t .limited }, passed .0 .ascending)
+
+  -- and sum over its rows, the marks at the front of a buffer
+  pub can-sum : (rest marks : List ℕ) → marks ≡ tableMarks n (rows n table) ++ rest → Checked n table × Marked n table marks × (s ≤ 300)
+  can-sum rest marks f = (passed .0, marked-front n table rest marks f, passed .1)

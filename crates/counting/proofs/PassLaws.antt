@@ -1,6 +1,5 @@
 -- What the passes over the rows need, over plain lists and numbers.
 --
---   entry-small, degree-small   no entry of an accepted table is above 50, no degree of a row above 300
 --   size-near, size-none, size-far, share-near   the size of a share, by its cases
 --   known-none, known-set, known-at   the sizes that were asked before
 --   share-small      no share exceeds the largest binomial
@@ -35,39 +34,15 @@ use mir.Val.{SFits}
 use Rattle.binomial.specs.Choose.{choose}
 use Rattle.binomial.proofs.ChooseLaws.{choose-over, choose-within}
 use Rattle.terms.specs.Tests.{pick}
-use Rattle.terms.specs.Monomials.{Monomial, Table, _!_, rowAt, degree}
+use Rattle.terms.specs.Monomials.{Monomial, Table, rowAt, degree}
 use Rattle.terms.specs.Rows.{rows}
-use Rattle.terms.proofs.MonomialLaws.{beyond}
-use Rattle.terms.proofs.RowsLaws.{entry-at, row-size, row-within, rows-size, member-at}
-use Rattle.terms.proofs.RefusalLaws.{TableAccepted}
+use Rattle.terms.proofs.RowsLaws.{rows-size}
 use Rattle.division.proofs.Facade.{multiplicativeTest, marksOf, tableMarks, marks-ones, marksOf-below, length-tableMarks, tableMarks-at}
 use Rattle.counting.specs.Counts.{sum, sumℤ, share, marksIn, oddTest, chooseℤ, signedShare, polynomialAt, steadyOf, countAt}
 use Rattle.counting.specs.Sums.{sharesOf, signedSharesOf, shareSize, Known, Summable, Splits, Checked, Marked}
 use Rattle.counting.proofs.ShareLaws.{share-inside, share-outside}
 use Rattle.counting.proofs.PolynomialLaws.{subℕ-pos}
 use Rattle.counting.proofs.JanetCount.{CountTable, janetShare, janet-count}
-
--- ---- degrees
-
--- no exponent above 50
-degree-limit : (u : Monomial) → ((i : ℕ) → u ! i ≤ 50) → degree u ≤ length u * 50
-unfolding degree
-degree-limit [] h = omega arith
-degree-limit (a ∷ u) h = omega (arith, h 1, degree-limit u rest)
-  where
-    rest : (i : ℕ) → u ! i ≤ 50
-    rest zero = omega arith
-    rest (suc i) = h (suc (suc i))
-
-module _ (n : ℕ) (t : List ℕ) (a : TableAccepted n t) (k : ℕ) (l : k < length (rows n t)) where
-  pub entry-small : (i : ℕ) → rowAt (rows n t) k ! i ≤ 50
-  entry-small zero = omega arith
-  entry-small (suc i) = by-cases (decLt i n)
-      (λ h. omega (arith, entry-at n t k i l h, a .small (getD t (k * n + i) 0) (member-at t 0 (k * n + i) (omega (arith, row-within n t k l)))))
-      (λ g. omega (arith, beyond (rowAt (rows n t) k) (suc i) (omega (arith, row-size n t k l))))
-
-  pub degree-small : degree (rowAt (rows n t) k) ≤ 300
-  degree-small = omega (arith, degree-limit (rowAt (rows n t) k) entry-small, row-size n t k l, a .few)
 
 -- ---- the sum of shares
 

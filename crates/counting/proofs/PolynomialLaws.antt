@@ -1,16 +1,18 @@
 -- Laws of the polynomial (rule 8) and of the steady degree (rule 9).
 --
 --   steady-le, steady-least   the steady degree is the least number that no degree of a row exceeds
+--   steady-most            and at most b for each variable where no exponent is above b
 --   signed-share-inside    where the row's degree is not above s, the share with a sign is the share
 --   polynomial-count       from the steady degree on the polynomial is the count
 use mathlib.Core.Path.{_≡_, refl, sym, ap, ap₂, _∙_}
 use mathlib.Core.List.{[], _∷_, List·Memᴰ·head, List·Memᴰ·tail, List·Memᴰ·cases-cons, List·Memᴰ·not-nil}
 use mathlib.Core.Logic.{⊎-elim}
-use Prim.Native.Nat.{ℕ, _+_, _-_, _≤_}
+use Prim.Native.Nat.{ℕ, _+_, _*_, _-_, _≤_}
 use native.Mathlib.Omega.{arith}
 use borrow.Author.Tests.{le-ltb}
 use lib.IntN.{ℤ, pos, subℕ, _-ℤ_, +ℤ-negℤ-cancel, pos-+ℤ-pos}
-use Rattle.terms.specs.Monomials.{Monomial, Table, _∈_, degree}
+use Rattle.terms.specs.Monomials.{Monomial, Table, _∈_, OfSize, AtMost, degree}
+use Rattle.terms.proofs.MonomialLaws.{degree-most}
 use Rattle.counting.specs.Counts.{sum, countAt, share, marksIn, chooseℤ, signedShare, polynomialAt, steadyOf}
 use Rattle.counting.proofs.SumLaws.{sumℤ-pos}
 use Rattle.counting.proofs.ShareLaws.{share-inside}
@@ -27,6 +29,9 @@ pub steady-least : (G : Table) (b : ℕ) → ((u : Monomial) → u ∈ G → deg
 unfolding steadyOf
 steady-least [] b h = omega arith
 steady-least (v ∷ G) b h = omega (arith, h v (List·Memᴰ·head refl), steady-least G b (λ u m. h u (List·Memᴰ·tail m)))
+
+pub steady-most : (n b : ℕ) (G : Table) → OfSize n G → ((u : Monomial) → u ∈ G → AtMost b u) → steadyOf G ≤ n * b
+steady-most n b G z h = steady-least G (n * b) (λ u m. rw (z u m) at (degree-most b u (h u m)))
 
 -- ---- rule 8
 

@@ -1,5 +1,7 @@
 -- What count, polynomial and steady promise.
 --
+--   Above300 s              5: s above 300, with its check `degreeCheck`
+--   NotComplete n table     7: the table is not complete, with its check `completeCheck`; 6, `orderCheck`, is that of find
 --   countChecks n table s   the checks of count and polynomial, in order: 1 to 4 of the table, 5, 6, 7
 --   steadyChecks n table    the checks of steady: 1 to 4, 6, 7
 --   countNumber, countValue .. the paper's number of an answer, 0 for none, and the value beside it, 0 beside a refusal
@@ -9,14 +11,12 @@ use mathlib.Core.Path.{_≡_}
 use mathlib.Core.Bool.{not}
 use mathlib.Core.List.{List, [], _∷_, _++_}
 use Prim.Native.Nat.{ℕ, _<_}
-use lib.Dec.{lit<}
+use lib.Dec.{ltb, lit<}
 use lib.IntN.{ℤ, pos}
 use Rattle.terms.specs.Tests.{Tests, tests-lt, tests-not}
-use Rattle.terms.specs.Order.{Ascending, ascendingTest}
 use Rattle.terms.specs.Rows.{rows}
 use Rattle.terms.specs.Refusals.{Check, refusal, check, tableChecks}
-use Rattle.terms.proofs.OrderLaws.{tests-ascending}
-use Rattle.division.proofs.Facade.{Complete, completeTest, tests-complete}
+use Rattle.division.proofs.Facade.{orderCheck, Complete, completeTest, tests-complete}
 use Rattle.counting.specs.Counts.{countAt, polynomialAt, steadyOf}
 use Rattle.counting.specs.declared.CountAnswer.{CountAnswer}
 use Rattle.counting.specs.declared.CountAnswer.the-variants as count
@@ -31,26 +31,28 @@ use Rattle.counting.specs.declared.SteadyAnswer.the-variants as steady
 abbrev pub Above300 : ℕ → Type 0
 Above300 s = 300 < s
 
--- 6: rows not strictly ascending
-abbrev pub NotAscending : ℕ → List ℕ → Type 0
-NotAscending n table = Ascending (rows n table) → ⊥
-
 -- 7: table not complete
 abbrev pub NotComplete : ℕ → List ℕ → Type 0
 NotComplete n table = Complete n (rows n table) → ⊥
 
-pub tests-notAscending : (n : ℕ) (table : List ℕ) → Tests (not (ascendingTest (rows n table))) (NotAscending n table)
-tests-notAscending n table = tests-not (tests-ascending (rows n table))
+pub tests-above300 : (s : ℕ) → Tests (ltb 300 s) (Above300 s)
+tests-above300 s = tests-lt 300 s
 
 pub tests-notComplete : (n : ℕ) (table : List ℕ) → Tests (not (completeTest n (rows n table))) (NotComplete n table)
 tests-notComplete n table = tests-not (tests-complete n (rows n table))
 
+abbrev pub degreeCheck : ℕ → Check
+degreeCheck s = check 5 (lit< tt) (tests-above300 s)
+
+abbrev pub completeCheck : ℕ → List ℕ → Check
+completeCheck n table = check 7 (lit< tt) (tests-notComplete n table)
+
 -- the checks 6 and 7, which all three end with
 abbrev pub orderChecks : ℕ → List ℕ → List Check
-orderChecks n table = check 6 (lit< tt) (tests-notAscending n table) ∷ check 7 (lit< tt) (tests-notComplete n table) ∷ []
+orderChecks n table = orderCheck n table ∷ completeCheck n table ∷ []
 
 abbrev pub countChecks : ℕ → List ℕ → ℕ → List Check
-countChecks n table s = tableChecks n table ++ (check 5 (lit< tt) (tests-lt 300 s) ∷ orderChecks n table)
+countChecks n table s = tableChecks n table ++ (degreeCheck s ∷ orderChecks n table)
 
 abbrev pub steadyChecks : ℕ → List ℕ → List Check
 steadyChecks n table = tableChecks n table ++ orderChecks n table

@@ -10,7 +10,8 @@ use mathlib.Core.Bool.{true, false}
 use mathlib.Core.List.{[], _∷_}
 use mathlib.Core.Option.{none, some}
 use Rattle.terms.specs.Tests.{true-tests, false-tests}
-use Rattle.terms.specs.Monomials.{Monomial, Table}
+use Rattle.terms.specs.Monomials.{Monomial}
+use Rattle.terms.specs.ExampleTables.{tableB, completedD, tableF}
 use Rattle.division.specs.Janet.{Complete, tableMarks, completeTest}
 use Rattle.division.specs.Descent.{descent}
 use Rattle.division.proofs.JanetLaws.{tests-complete}
@@ -20,27 +21,20 @@ pub example-A-find : (q : Monomial) → descent 2 [] q ≡ record { found = none
 unfolding descent
 example-A-find q = refl
 
-pub example-B-marks : tableMarks 2 ((0 ∷ 0 ∷ []) ∷ []) ≡ 3 ∷ []
+pub example-B-marks : tableMarks 2 tableB ≡ 3 ∷ []
 unfolding tableMarks
 example-B-marks = refl
 
-abbrev pub tableD : Table
-tableD = (0 ∷ 2 ∷ []) ∷ (1 ∷ 2 ∷ []) ∷ (2 ∷ 1 ∷ []) ∷ []
-
-pub example-D-marks : tableMarks 2 tableD ≡ 2 ∷ 2 ∷ 3 ∷ []
+pub example-D-marks : tableMarks 2 completedD ≡ 2 ∷ 2 ∷ 3 ∷ []
 unfolding tableMarks
 example-D-marks = refl
 
-test-D : completeTest 2 tableD ≡ true
+test-D : completeTest 2 completedD ≡ true
 unfolding completeTest
 test-D = refl
 
-pub example-D-complete : Complete 2 tableD
-example-D-complete = true-tests (tests-complete 2 tableD) test-D
-
--- document 002, example 5.2
-abbrev pub tableF : Table
-tableF = (0 ∷ 0 ∷ 2 ∷ []) ∷ (0 ∷ 1 ∷ 1 ∷ []) ∷ (0 ∷ 2 ∷ 0 ∷ []) ∷ (1 ∷ 0 ∷ 1 ∷ []) ∷ (3 ∷ 1 ∷ 0 ∷ []) ∷ []
+pub example-D-complete : Complete 2 completedD
+example-D-complete = true-tests (tests-complete 2 completedD) test-D
 
 pub example-F-marks : tableMarks 3 tableF ≡ 4 ∷ 4 ∷ 6 ∷ 6 ∷ 7 ∷ []
 unfolding tableMarks

@@ -4,6 +4,7 @@
 --   rule 2:  InGroup, Multiplicative, multiplicativeTest; as a byte: marksByte, marksCount, marksOf, tableMarks
 --   rules 3 and 4 with Janet's marks:  JanetDivisor, Complete, completeTest
 --   rule 6:  descent, and what it answers, Answers; scan, for rows in any order
+--   the check 6:  NotAscending, tests-notAscending, orderCheck; what marking asks of a table and a buffer:  Markable
 --   laws of the tests:     tests-multiplicative, tests-janet, tests-covered, tests-complete
 --   laws of the marks:     marks-below, -same, -mod, -bit, -past, -all, -ones, -injective, count-le, count-same, tableMarks-at, ..
 --   laws of the division:  at-most-one, janet-disjoint, ascending-distinct (disjoint); cover, covers-complete, inside-divisor, outside-none (cover);
@@ -14,6 +15,8 @@ unfoldable pub use Rattle.division.specs.Janet.{multiplicativeTest, mark
 pub use Rattle.division.specs.Scan.{Answers, AnswersFirst, FirstDivisor, foundTest}
 unfoldable pub use Rattle.division.specs.Scan.{scan}
 pub use Rattle.division.specs.Descent.{Descent}
+pub use Rattle.division.specs.Operations.{NotAscending, tests-notAscending, orderCheck}
+pub use Rattle.division.specs.Marking.{Markable}
 unfoldable pub use Rattle.division.specs.Descent.{descent}
 pub use Rattle.division.proofs.JanetLaws.{tests-multiplicative, tests-janet, tests-covered, tests-complete}
 pub use Rattle.division.proofs.JanetLaws.{multiplicative?, multiplicative-same, multiplicative-none}

@@ -5,33 +5,31 @@
 --   find-refuses           where one does: its number
 --   find-finds             an accepted find answers with the Janet divisor's row number, or with none where there is none
 --   find-steps             the steps are at most the degree of the query plus n
---   refuses-table, refuses-length, refuses-order, refuses-none   the number of the first check that refuses
+--   refuses-length, refuses-order, refuses-none   the number of the first check that refuses, where the table's pass
 --   find-ready, find-length   what is known of inputs that passed
 use mathlib.Core.Path.{_≡_, refl, sym, ap, _∙_, subst}
-use mathlib.Core.List.{List, [], _∷_, List·Memᴰ·head, List·Memᴰ·tail}
+use mathlib.Core.List.{List, [], _∷_}
 use mathlib.Core.Option.{Option, none, some}
-use mathlib.Core.Logic.{by-cases}
 use Prim.Native.Nat.{ℕ, zero, suc, _+_, _≤_, _<_}
 use native.Mathlib.Nat.{not-suc-le-zero}
-use native.Mathlib.Decide.{ℕ-discrete}
 use native.Mathlib.Omega.{arith}
 use lib.ListN.{length}
-use Rattle.terms.specs.Tests.{decide}
+use Rattle.terms.specs.Tests.{stable, tests-eq}
 use Rattle.terms.specs.Monomials.{degree}
 use Rattle.terms.specs.Order.{Ascending}
 use Rattle.terms.specs.Rows.{rows}
-use Rattle.terms.specs.Refusals.{Accepts, refusal, tableChecks}
+use Rattle.terms.specs.Refusals.{Check, Accepts, refusal, tableChecks}
 use Rattle.terms.proofs.OrderLaws.{tests-ascending}
 use Rattle.terms.proofs.RowsLaws.{rows-size}
-use Rattle.terms.proofs.RefusalLaws.{accepted, refusal-holds, refusal-passes, refusal-append, refusal-first}
+use Rattle.terms.proofs.RefusalLaws.{accepted, refusal-none, refusal-holds, refusal-passes, passes-first}
+use Rattle.terms.proofs.RefusalLaws.{accepts-head, accepts-tail, accepts-right, table-listed}
 use Rattle.division.specs.Janet.{Multiplicative}
 use Rattle.division.specs.Scan.{Answers}
 use Rattle.division.specs.Descent.{Descent, descent}
 use Rattle.division.specs.Ranges.{Ready, foundRow, descended}
-use Rattle.division.specs.Operations.{NotAscending, lengthCheck, orderCheck, findChecks, findNumber}
+use Rattle.division.specs.Operations.{OtherLength, NotAscending, lengthCheck, orderCheck, findChecks, findNumber}
 use Rattle.division.specs.Operations.{findRow, findSteps, findGives, findCase, findAnswer, FindPromise}
 use Rattle.division.proofs.DescentLaws.{descent-finds, descent-steps}
-use Rattle.division.proofs.ReadyLaws.{table-ready}
 use Rattle.division.specs.declared.finding.FindAnswer.{FindAnswer}
 use Rattle.division.specs.declared.finding.FindAnswer.the-variants.{Row, Nothing, Refused}
 use Rattle.division.specs.declared.finding.Found.the-variants as Found
@@ -94,39 +92,42 @@ module _ (n : ℕ) (table query : List ℕ) where
 
   -- ---- the first check that refuses
 
-  pub refuses-table : 0 < refusal (tableChecks n table) → refusal (tableChecks n table) ≡ refusal (findChecks n table query)
-  refuses-table p = sym (refusal-first (tableChecks n table) (lengthCheck n query ∷ (orderCheck n table ∷ [])) p)
+  abbrev ownChecks : List Check
+  ownChecks = lengthCheck n query ∷ (orderCheck n table ∷ [])
 
   module _ (a : refusal (tableChecks n table) ≡ 0) where
-    own-checks : refusal (findChecks n table query) ≡ refusal (lengthCheck n query ∷ (orderCheck n table ∷ []))
-    own-checks = refusal-append (tableChecks n table) (lengthCheck n query ∷ (orderCheck n table ∷ [])) (accepted (tableChecks n table) a)
+    pub refuses-length : OtherLength n query → 5 ≡ refusal (findChecks n table query)
+    refuses-length h = passes-first (tableChecks n table) ownChecks 5 a (sym (refusal-holds (lengthCheck n query) (orderCheck n table ∷ []) h))
 
-    pub refuses-length : (length query ≡ n → ⊥) → 5 ≡ refusal (findChecks n table query)
-    refuses-length h = sym (own-checks ∙ refusal-holds (lengthCheck n query) (orderCheck n table ∷ []) h)
+    module _ (e : length query ≡ n) where
+      of-order : (m : ℕ) → m ≡ refusal (orderCheck n table ∷ []) → m ≡ refusal (findChecks n table query)
+      of-order m h = passes-first (tableChecks n table) ownChecks m a
+          (h ∙ sym (refusal-passes (lengthCheck n query) (orderCheck n table ∷ []) (λ f. f e)))
 
-    pub refuses-order : length query ≡ n → NotAscending n table → 6 ≡ refusal (findChecks n table query)
-    refuses-order e h = sym (own-checks ∙ refusal-passes (lengthCheck n query) (orderCheck n table ∷ []) (λ f. f e) ∙ refusal-holds (orderCheck n table) [] h)
+      pub refuses-order : NotAscending n table → 6 ≡ refusal (findChecks n table query)
+      refuses-order h = of-order 6 (sym (refusal-holds (orderCheck n table) [] h))
 
-    pub refuses-none : length query ≡ n → Ascending (rows n table) → 0 ≡ refusal (findChecks n table query)
-    unfolding refusal
-    refuses-none e h = sym (own-checks ∙ refusal-passes (lengthCheck n query) (orderCheck n table ∷ []) (λ f. f e) ∙ refusal-passes
-        (orderCheck n table) [] (λ f. f h))
+      pub refuses-none : Ascending (rows n table) → 0 ≡ refusal (findChecks n table query)
+      refuses-none h = of-order 0 (sym (refusal-passes (orderCheck n table) [] (λ f. f h) ∙ refusal-none))
 
   -- ---- inputs that passed
 
-  table-passed : refusal (findChecks n table query) ≡ 0 → refusal (tableChecks n table) ≡ 0
-  table-passed e = by-cases (ℕ-discrete (refusal (tableChecks n table)) 0) (λ h. h) (λ g. absurd (omega (arith, refuses-table (omega arith))))
-
-  own-passed : refusal (findChecks n table query) ≡ 0 → Accepts (lengthCheck n query ∷ (orderCheck n table ∷ []))
-  own-passed e = accepted (lengthCheck n query ∷ (orderCheck n table ∷ [])) (sym (own-checks (table-passed e)) ∙ e)
+  own-passed : refusal (findChecks n table query) ≡ 0 → Accepts ownChecks
+  own-passed e = accepts-right (tableChecks n table) ownChecks (accepted (findChecks n table query) e)
 
   pub find-length : refusal (findChecks n table query) ≡ 0 → length query ≡ n
-  find-length e = by-cases (ℕ-discrete (length query) n) (λ h. h) (λ g. absurd (own-passed e (lengthCheck n query) (List·Memᴰ·head refl) g))
+  find-length e = stable (tests-eq (length query) n) (accepts-head (lengthCheck n query) (orderCheck n table ∷ []) (own-passed e))
 
   pub find-ready : refusal (findChecks n table query) ≡ 0 → Ready n (rows n table)
-  find-ready e = table-ready n table (table-passed e) (by-cases (decide (tests-ascending (rows n table)))
-      (λ h. h)
-      (λ g. absurd (own-passed e (orderCheck n table) (List·Memᴰ·tail (List·Memᴰ·head refl)) g)))
+  find-ready e =
+      let t = table-listed n table ownChecks e in
+      let order : Accepts (orderCheck n table ∷ []) = accepts-tail (lengthCheck n query) (orderCheck n table ∷ []) (own-passed e) in
+      record {
+        some = t .some;
+        few = t .few;
+        limited = t .limited;
+        ascends = stable (tests-ascending (rows n table)) (accepts-head (orderCheck n table) [] order);
+      }
 
   -- ---- the answer from what the code's descent gives
 

@@ -7,21 +7,19 @@
 --   inside-unique          two answers that the promise allows are equal
 --   inside-accepts, inside-refuses   where no check refuses: the first row that divides; where one does: its number
 --   inside-finds           what an accepted answer says
---   refuses-table, refuses-length, refuses-none   the number of the first check that refuses
+--   refuses-length, refuses-none   the number of the first check that refuses, where the table's pass
 --   inside-passed, inside-length   what is known of inputs that passed
 use mathlib.Core.Path.{_≡_, refl, sym, ap, _∙_, subst}
 use mathlib.Core.Bool.{Bool, true, false}
-use mathlib.Core.List.{List, [], _∷_, List·Memᴰ·head}
+use mathlib.Core.List.{List, [], _∷_}
 use mathlib.Core.Option.{Option, none, some}
-use mathlib.Core.Logic.{by-cases}
 use Prim.Native.Nat.{ℕ, zero, suc, _+_, _*_, _≤_, _<_}
 use native.Mathlib.Nat.{not-suc-le-zero, le-of-suc-le-suc, div-self}
 use native.Mathlib.Numerals.{add-one}
-use native.Mathlib.Decide.{ℕ-discrete}
 use native.Mathlib.Omega.{arith}
 use lib.ListN.{length, drop, take, drop-of-length-le}
 use lib.Seq.{drop-cons, take-all}
-use Rattle.terms.specs.Tests.{Tests, pick, tests-as, tests-same, tests-true, tests-false}
+use Rattle.terms.specs.Tests.{Tests, pick, stable, tests-eq, tests-as, tests-same, tests-true, tests-false}
 use Rattle.terms.specs.Monomials.{Monomial, Table, rowAt}
 use Rattle.terms.specs.Ideal.{Divides, dividesTest, insideTest}
 use Rattle.terms.specs.Rows.{rows, padded, asRow}
@@ -29,10 +27,11 @@ use Rattle.terms.specs.Refusals.{refusal, tableChecks}
 use Rattle.terms.specs.declared.RowNumber.{RowNumber}
 use Rattle.terms.proofs.IdealLaws.{tests-divides, tests-inside}
 use Rattle.terms.proofs.RowsLaws.{length-rows, rows-at, padded-at, member-at, member-index}
-use Rattle.terms.proofs.RefusalLaws.{accepted, refusal-holds, refusal-passes, refusal-append, refusal-first, TableAccepted, table-accepted}
+use Rattle.terms.proofs.RefusalLaws.{accepted, refusal-none, refusal-holds, refusal-passes, passes-first}
+use Rattle.terms.proofs.RefusalLaws.{accepts-head, accepts-right, TableAccepted, table-listed}
 use Rattle.division.specs.Ranges.{foundRow}
 use Rattle.division.specs.Scan.{foundTest}
-use Rattle.division.specs.Operations.{lengthCheck}
+use Rattle.division.specs.Operations.{OtherLength, lengthCheck}
 use Rattle.division.specs.Inside.{firstFrom, firstDivisor, FirstDividing, DividesFirst, insideChecks, insideNumber, insideRow, insideGives, insideCase, insideAnswer, InsidePromise}
 use Rattle.division.specs.declared.inside.InsideAnswer.{InsideAnswer}
 use Rattle.division.specs.declared.inside.InsideAnswer.the-variants.{Row, Nothing, Refused}
@@ -168,32 +167,23 @@ module _ (n : ℕ) (table query : List ℕ) where
 
   -- ---- the first check that refuses
 
-  pub refuses-table : 0 < refusal (tableChecks n table) → refusal (tableChecks n table) ≡ refusal (insideChecks n table query)
-  refuses-table p = sym (refusal-first (tableChecks n table) (lengthCheck n query ∷ []) p)
-
   module _ (a : refusal (tableChecks n table) ≡ 0) where
-    own-checks : refusal (insideChecks n table query) ≡ refusal (lengthCheck n query ∷ [])
-    own-checks = refusal-append (tableChecks n table) (lengthCheck n query ∷ []) (accepted (tableChecks n table) a)
-
-    pub refuses-length : (length query ≡ n → ⊥) → 5 ≡ refusal (insideChecks n table query)
-    refuses-length h = sym (own-checks ∙ refusal-holds (lengthCheck n query) [] h)
+    pub refuses-length : OtherLength n query → 5 ≡ refusal (insideChecks n table query)
+    refuses-length h = passes-first (tableChecks n table) (lengthCheck n query ∷ []) 5 a (sym (refusal-holds (lengthCheck n query) [] h))
 
     pub refuses-none : length query ≡ n → 0 ≡ refusal (insideChecks n table query)
-    unfolding refusal
-    refuses-none e = sym (own-checks ∙ refusal-passes (lengthCheck n query) [] (λ f. f e))
+    refuses-none e = passes-first (tableChecks n table) (lengthCheck n query ∷ []) 0 a
+        (sym (refusal-passes (lengthCheck n query) [] (λ f. f e) ∙ refusal-none))
 
   -- ---- inputs that passed
 
   module _ (e : refusal (insideChecks n table query) ≡ 0) where
-    table-passed : refusal (tableChecks n table) ≡ 0
-    table-passed = by-cases (ℕ-discrete (refusal (tableChecks n table)) 0) (λ h. h) (λ g. absurd (omega (arith, g, refuses-table (omega (arith, g)))))
-
     pub inside-passed : TableAccepted n table
-    inside-passed = table-accepted n table (accepted (tableChecks n table) table-passed)
+    inside-passed = table-listed n table (lengthCheck n query ∷ []) e
 
     pub inside-length : length query ≡ n
-    inside-length = by-cases (ℕ-discrete (length query) n) (λ h. h)
-        (λ g. absurd (accepted (lengthCheck n query ∷ []) (sym (own-checks table-passed) ∙ e) (lengthCheck n query) (List·Memᴰ·head refl) g))
+    inside-length = stable (tests-eq (length query) n) (accepts-head (lengthCheck n query) []
+        (accepts-right (tableChecks n table) (lengthCheck n query ∷ []) (accepted (insideChecks n table query) e)))
 
     -- the query is the one row of its bytes
     pub one-row : 0 < length (rows n query)

@@ -11,7 +11,6 @@ pub mod Facade
 pub mod Examples
 pub mod RangeLaws
 pub mod SteppingLaws
-pub mod ReadyLaws
 pub mod FindLaws
 pub mod CompleteLaws
 pub mod InsideLaws

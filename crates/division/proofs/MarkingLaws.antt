@@ -7,27 +7,26 @@
 --   written-last, written-step, written-all    the turns of `mark_listed`
 --   marks-unique           two results that the promise allows are equal
 --   marks-accepts, marks-refuses   where no check refuses: the marks; where one does: its number, and the buffer as it was
---   refuses-table, refuses-buffer, refuses-none   the number of the first check that refuses
+--   refuses-buffer, refuses-none   the number of the first check that refuses, where the table's pass
 --   marks-passed, marks-room   what is known of inputs that passed
 use mathlib.Core.Path.{_≡_, refl, sym, ap, _∙_, subst}
-use mathlib.Core.Bool.{false}
-use mathlib.Core.List.{List, [], _∷_, _++_, List·Memᴰ·head}
+use mathlib.Core.List.{List, [], _∷_, _++_}
 use mathlib.Core.Logic.{inl, ⊎-elim, by-cases}
 use Prim.Native.Nat.{ℕ, zero, suc, _+_, _-_, _^_, _≤_, _<_}
 use native.Mathlib.Nat.{not-suc-le-zero, eq-or-lt-of-le}
 use native.Mathlib.Decide.{decLe, decLt, ℕ-discrete}
 use native.Mathlib.Omega.{arith}
-use lib.Dec.{eqb}
 use lib.ListN.{length, take, drop, getD, set, length-set, length-append, length-drop, drop-of-length-le, List·getD-append}
 use lib.Seq.{drop-cons, set-split, set-at, take-suc, append-snoc, length-take-le, take-set-le, drop-set-lt}
 use lib.Seq.{getD-set-same, getD-set-other, getD-append-add, getD-drop, ext-getD}
-use Rattle.terms.specs.Tests.{pick, tests-false, tests-eq}
+use Rattle.terms.specs.Tests.{stable, pick-true, pick-false, tests-le, tests-eq}
 use Rattle.terms.specs.Monomials.{Monomial, Table, _∈_, rowAt}
 use Rattle.terms.specs.Order.{Precedes}
 use Rattle.terms.specs.Rows.{rows}
 use Rattle.terms.specs.Refusals.{refusal, tableChecks}
 use Rattle.terms.proofs.RowsLaws.{member-at, member-index}
-use Rattle.terms.proofs.RefusalLaws.{accepted, refusal-holds, refusal-passes, refusal-append, refusal-first, TableAccepted, table-accepted}
+use Rattle.terms.proofs.RefusalLaws.{accepted, refusal-none, refusal-holds, refusal-passes, passes-first}
+use Rattle.terms.proofs.RefusalLaws.{accepts-head, accepts-right, TableAccepted, table-listed}
 use Rattle.division.specs.Janet.{marksOf, tableMarks}
 use Rattle.division.specs.Ordering.{NotAfter, listed, Listing}
 use Rattle.division.specs.Marking.{bufferCheck, marksChecks, marked, marksNumber, marksCase, marksAnswer, marksBuffer, MarksPromise}
@@ -190,40 +189,24 @@ case-refused : (m : ℕ) → 0 < m → marksCase m ≡ Refused m
 case-refused zero p = absurd (not-suc-le-zero p)
 case-refused (suc m) p = refl
 
-pick-zero : (m : ℕ) (x y : List ℕ) → m ≡ 0 → pick (eqb m 0) x y ≡ x
-pick-zero zero x y e = refl
-pick-zero (suc m) x y e = absurd (omega arith)
-
-pick-suc : (m : ℕ) (x y : List ℕ) → 0 < m → pick (eqb m 0) x y ≡ y
-pick-suc m x y p = let e : false ≡ eqb m 0 = tests-false (tests-eq m 0) (λ h. omega (arith, h)) in rw (← e)
-
 module _ (n : ℕ) (table : List ℕ) (size : ℕ) where
   -- the first check that refuses
-  pub refuses-table : 0 < refusal (tableChecks n table) → refusal (tableChecks n table) ≡ refusal (marksChecks n table size)
-  refuses-table p = sym (refusal-first (tableChecks n table) (bufferCheck n table size ∷ []) p)
-
   module _ (a : refusal (tableChecks n table) ≡ 0) where
-    own-checks : refusal (marksChecks n table size) ≡ refusal (bufferCheck n table size ∷ [])
-    own-checks = refusal-append (tableChecks n table) (bufferCheck n table size ∷ []) (accepted (tableChecks n table) a)
-
     pub refuses-buffer : size < length (rows n table) → 8 ≡ refusal (marksChecks n table size)
-    refuses-buffer h = sym (own-checks ∙ refusal-holds (bufferCheck n table size) [] h)
+    refuses-buffer h = passes-first (tableChecks n table) (bufferCheck n table size ∷ []) 8 a (sym (refusal-holds (bufferCheck n table size) [] h))
 
     pub refuses-none : length (rows n table) ≤ size → 0 ≡ refusal (marksChecks n table size)
-    unfolding refusal
-    refuses-none h = sym (own-checks ∙ refusal-passes (bufferCheck n table size) [] (λ f. omega (arith, f)))
+    refuses-none h = passes-first (tableChecks n table) (bufferCheck n table size ∷ []) 0 a
+        (sym (refusal-passes (bufferCheck n table size) [] (λ f. omega (arith, f)) ∙ refusal-none))
 
   -- inputs that passed
   module _ (e : refusal (marksChecks n table size) ≡ 0) where
-    table-passed : refusal (tableChecks n table) ≡ 0
-    table-passed = by-cases (ℕ-discrete (refusal (tableChecks n table)) 0) (λ h. h) (λ g. absurd (omega (arith, g, refuses-table (omega (arith, g)))))
-
     pub marks-passed : TableAccepted n table
-    marks-passed = table-accepted n table (accepted (tableChecks n table) table-passed)
+    marks-passed = table-listed n table (bufferCheck n table size ∷ []) e
 
     pub marks-room : length (rows n table) ≤ size
-    marks-room = by-cases (decLe (length (rows n table)) size) (λ h. h)
-        (λ g. absurd (accepted (bufferCheck n table size ∷ []) (sym (own-checks table-passed) ∙ e) (bufferCheck n table size) (List·Memᴰ·head refl) (omega arith)))
+    marks-room = stable (tests-le (length (rows n table)) size) (λ g. accepts-head (bufferCheck n table size) []
+        (accepts-right (tableChecks n table) (bufferCheck n table size ∷ []) (accepted (marksChecks n table size) e)) (omega (arith, g)))
 
 module _ (n : ℕ) (table buffer : List ℕ) where
   pub marks-accepts : refusal (marksChecks n table (length buffer)) ≡ 0 → MarksPromise n table buffer Done (marked n (rows n table) buffer)
@@ -231,7 +214,7 @@ module _ (n : ℕ) (table buffer : List ℕ) where
   marks-accepts e = record {
     number = sym e;
     answers = ap marksCase (sym e);
-    writes = sym (pick-zero (refusal (marksChecks n table (length buffer))) (marked n (rows n table) buffer) buffer e);
+    writes = pick-true (tests-eq (refusal (marksChecks n table (length buffer))) 0) (marked n (rows n table) buffer) buffer e;
   }
 
   pub marks-refuses : (m : ℕ) → 0 < m → m ≡ refusal (marksChecks n table (length buffer)) → MarksPromise n table buffer (Refused m) buffer
@@ -239,5 +222,5 @@ module _ (n : ℕ) (table buffer : List ℕ) where
   marks-refuses m p e = record {
     number = e;
     answers = sym (case-refused m p) ∙ ap marksCase e;
-    writes = sym (pick-suc (refusal (marksChecks n table (length buffer))) (marked n (rows n table) buffer) buffer (omega (arith, e)));
+    writes = pick-false (tests-eq (refusal (marksChecks n table (length buffer))) 0) (marked n (rows n table) buffer) buffer (λ z. omega (arith, e, z));
   }

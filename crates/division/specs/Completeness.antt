@@ -4,14 +4,14 @@
 --   variableTest G u i   variable i is multiplicative for u, or u times i has a Janet divisor
 --   rowTest n G u    the same of each variable
 use mathlib.Core.Bool.{Bool, not}
-use Prim.Native.Nat.{ℕ, _≤_, _<_}
+use Prim.Native.Nat.{ℕ, _<_}
 use lib.ListN.{length}
 use Rattle.terms.specs.Tests.{_implies_, each}
-use Rattle.terms.specs.Monomials.{Monomial, Table, _!_, rowAt, times}
+use Rattle.terms.specs.Monomials.{Monomial, Table, rowAt, AtMost, times}
 use Rattle.division.specs.Janet.{multiplicativeTest, coveredTest}
 
 abbrev pub Small : Table → Type 0
-Small G = (r : ℕ) → r < length G → (i : ℕ) → rowAt G r ! i ≤ 50
+Small G = (r : ℕ) → r < length G → AtMost 50 (rowAt G r)
 
 unfoldable pub variableTest : Table → Monomial → ℕ → Bool
 unfolding multiplicativeTest coveredTest

@@ -6,46 +6,39 @@
 --   steady-small    a steady degree is at most 300
 --   located-small   n, row count and place of an opened table are below 65,536
 use mathlib.Core.Path.{_≡_, refl, sym, ap, _∙_}
-use mathlib.Core.List.{List, [], _∷_, List·Memᴰ·head}
+use mathlib.Core.List.{List}
 use mathlib.Core.Logic.{by-cases}
-use Prim.Native.Nat.{ℕ, suc, _*_, _≤_, _<_}
-use native.Mathlib.Nat.{le-trans}
-use native.Mathlib.Decide.{ℕ-discrete, decLt}
+use Prim.Native.Nat.{ℕ, _≤_, _<_}
+use native.Mathlib.Nat.{le-trans, le-of-suc-le-suc}
+use native.Mathlib.Decide.{ℕ-discrete}
 use native.Mathlib.Omega.{arith}
-use borrow.Author.Tests.{eq-eqb, ne-eqb}
 use lib.ListN.{length, getD}
-use Rattle.terms.specs.Monomials.{Monomial, degree}
 use Rattle.terms.specs.Rows.{rows}
 use Rattle.terms.specs.Refusals.{refusal}
-use Rattle.terms.proofs.RowsLaws.{member-index}
-use Rattle.division.specs.Operations.{FindPromise, findChecks, findNumber, findSteps}
-use Rattle.division.specs.declared.finding.FindAnswer.{FindAnswer}
-use Rattle.division.specs.declared.finding.FindAnswer.the-variants.{Row}
 use Rattle.terms.specs.declared.RowNumber.{RowNumber}
 use Rattle.terms.specs.declared.Degree.{Degree}
-use mathlib.Core.Option.{Option, none, some}
-use mathlib.Core.Path.{subst}
-use mathlib.Core.List.{Memᴰ·append-left}
-use Rattle.division.specs.Inside.{InsidePromise, DividesFirst, firstDivisor, insideChecks, insideRow, insideGives}
+use Rattle.terms.proofs.MonomialLaws.{most-by, degree-most}
+use Rattle.terms.proofs.RowsLaws.{rows-size}
+use Rattle.terms.proofs.RefusalLaws.{rows-small}
+use Rattle.division.specs.Operations.{FindPromise, findChecks, findNumber, findSteps}
+use Rattle.division.specs.Inside.{InsidePromise, insideChecks}
+use Rattle.division.specs.declared.finding.FindAnswer.{FindAnswer}
+use Rattle.division.specs.declared.finding.FindAnswer.the-variants.{Row}
 use Rattle.division.specs.declared.inside.InsideAnswer.the-variants as inside
-use Rattle.division.proofs.InsideLaws.{inside-unique, inside-accepts, divides-first}
-use Rattle.terms.proofs.RefusalLaws.{table-accepted}
+use Rattle.division.proofs.FindLaws.{find-finds, find-steps, find-ready, find-length}
+use Rattle.division.proofs.InsideLaws.{inside-passed, inside-finds}
 use Rattle.completion.specs.Operation.{CompletePromise}
 use Rattle.completion.specs.declared.CompleteAnswer.the-variants as complete
 use Rattle.completion.proofs.OperationLaws.{complete-count, accepted-room, room-limited}
-use Rattle.division.proofs.FindLaws.{find-finds, find-steps, find-ready, find-length}
 use Rattle.counting.specs.Operations.{SteadyPromise, steadyChecks, steadyValue}
 use Rattle.counting.specs.declared.SteadyAnswer.the-variants as steady
-use Rattle.counting.proofs.PassLaws.{degree-small}
-use Rattle.counting.proofs.PolynomialLaws.{steady-least}
+use Rattle.counting.proofs.PolynomialLaws.{steady-most}
 use Rattle.counting.proofs.OperationLaws.{steady-checked}
-use Rattle.bundle.specs.Operation.{LocatePromise, opened}
-use Rattle.bundle.specs.Format.{variablesOf, rowCount, placeOf, tableCount}
-use Rattle.bundle.specs.Checks.{bundleChecks, openChecks, numberChecks}
+use Rattle.bundle.specs.Format.{variablesOf, rowCount, placeOf}
+use Rattle.bundle.specs.Checks.{openChecks}
+use Rattle.bundle.specs.Operation.{LocatePromise}
 use Rattle.bundle.specs.declared.Located.{Located}
-use Rattle.bundle.proofs.CheckLaws.{accepts-left, accepts-right}
-use Rattle.bundle.proofs.AcceptedLaws.{accepted-by}
-use Rattle.terms.proofs.RefusalLaws.{accepted}
+use Rattle.bundle.proofs.ReadLaws.{opened-is, refused-is, open-accepted}
 
 -- ---- find
 
@@ -54,30 +47,20 @@ row-small n table query r k p =
     let z : refusal (findChecks n table query) ≡ 0 = sym (p .number) in
     omega (arith, find-finds n table query (Row r k) p z .within, find-ready n table query z .limited)
 
-degree-bytes : (q : Monomial) → ((i : ℕ) → getD q i 0 < 256) → degree q ≤ length q * 255
-unfolding degree
-degree-bytes [] h = omega arith
-degree-bytes (a ∷ q) h = omega (arith, h 0, degree-bytes q (λ i. h (suc i)))
-
 -- an answer has the steps of the descent, at most degree plus n; a refusal has none
 pub steps-small : (n : ℕ) (table query : List ℕ) (answer : FindAnswer) → ((i : ℕ) → getD query i 0 < 256) → FindPromise n table query answer → findNumber answer ≡ 0 → findSteps answer ≤ 1536
 steps-small n table query answer h p e =
     let z : refusal (findChecks n table query) ≡ 0 = sym (p .number) ∙ e in
-    omega (arith, find-steps n table query answer p z, degree-bytes query h, find-length n table query z, find-ready n table query z .few)
+    let few = degree-most 255 query (most-by 255 query (λ i. le-of-suc-le-suc (h i))) in
+    omega (arith, find-steps n table query answer p z, few, find-length n table query z, find-ready n table query z .few)
 
 -- ---- steady
 
 pub steady-small : (n : ℕ) (table : List ℕ) (d : Degree) → SteadyPromise n table (steady.At d) → d .0 ≤ 300
 steady-small n table d p =
     let z : refusal (steadyChecks n table) ≡ 0 = sym (p .number) in
-    let c = steady-checked n table z in
-    omega (
-      arith,
-      ap steadyValue (p .value z),
-      steady-least (rows n table) 300 (λ u m.
-          let r = member-index (rows n table) [] u m in
-          omega (arith, ap degree (r .2), degree-small n table (c .accepted) (r .0) (r .1))),
-    )
+    let t = steady-checked n table z .accepted in
+    omega (arith, ap steadyValue (p .value z), steady-most n 50 (rows n table) (rows-size n table) (rows-small n table t), t .few)
 
 -- ---- open
 
@@ -86,30 +69,21 @@ pub record Small (r : Located) : Type 0 where
   pub count : r .rows < 65536
   pub begins : r .place < 65536
 
-opened-here : (b : List ℕ) (j x : ℕ) → refusal (openChecks b j) ≡ 0 → opened b j x 0 ≡ x
-unfolding opened
-opened-here b j x e = rw (eq-eqb _ _ e)
-
-opened-not : (b : List ℕ) (j x : ℕ) → (refusal (openChecks b j) ≡ 0 → ⊥) → opened b j x 0 ≡ 0
-unfolding opened
-opened-not b j x e = rw (ne-eqb _ _ e)
-
 pub located-small : (b : List ℕ) (j : ℕ) (r : Located) → LocatePromise b j r → Small r
 located-small b j r p = by-cases (ℕ-discrete (refusal (openChecks b j)) 0)
     (λ z.
-    let a = accepted (openChecks b j) z in
-    let l = accepted-by b (accepts-left (bundleChecks b) (numberChecks b j) a) .layout in
-    let w = by-cases (decLt j (tableCount b)) (λ h. l .tables j h)
-    (λ g. absurd (accepts-right (bundleChecks b) (numberChecks b j) a _ (List·Memᴰ·head refl) (omega arith))) in
+    let a = open-accepted b j z in
+    let l = a .0 .layout in
+    let w = l .tables j (a .1) in
     record {
-      variables = omega (arith, p .variables, opened-here b j (variablesOf b) z, l .frame .fewVariables);
-      count = omega (arith, p .count, opened-here b j (rowCount b j) z, w .limited);
-      begins = omega (arith, p .begins, opened-here b j (placeOf b j) z, w .within, l .frame .short);
+      variables = omega (arith, p .variables, opened-is b j (variablesOf b) 0 z, l .frame .fewVariables);
+      count = omega (arith, p .count, opened-is b j (rowCount b j) 0 z, w .limited);
+      begins = omega (arith, p .begins, opened-is b j (placeOf b j) 0 z, w .within, l .frame .short);
     })
     (λ g. record {
-      variables = omega (arith, p .variables, opened-not b j (variablesOf b) g);
-      count = omega (arith, p .count, opened-not b j (rowCount b j) g);
-      begins = omega (arith, p .begins, opened-not b j (placeOf b j) g);
+      variables = omega (arith, p .variables, refused-is b j (variablesOf b) 0 _ refl g);
+      count = omega (arith, p .count, refused-is b j (rowCount b j) 0 _ refl g);
+      begins = omega (arith, p .begins, refused-is b j (placeOf b j) 0 _ refl g);
     })
 
 -- ---- inside
@@ -117,15 +91,7 @@ located-small b j r p = by-cases (ℕ-discrete (refusal (openChecks b j)) 0)
 pub inside-small : (n : ℕ) (table query : List ℕ) (r : RowNumber) → InsidePromise n table query (inside.Row r) → r .0 < 4096
 inside-small n table query r p =
     let z : refusal (insideChecks n table query) ≡ 0 = sym (p .number) in
-    let t = table-accepted n table (λ c m. accepted (insideChecks n table query) z c (Memᴰ·append-left _ m)) in
-    let d : DividesFirst (rows n table) query (insideRow (inside.Row r)) = subst (DividesFirst (rows n table) query)
-    (sym (ap insideRow (inside-unique p (inside-accepts n table query z)) ∙ gives (firstDivisor (rows n table) query)))
-    (divides-first (rows n table) query) in
-    omega (arith, d .within, t .limited)
-  where
-    gives : (o : Option ℕ) → insideRow (insideGives o) ≡ o
-    gives none = refl
-    gives (some r) = refl
+    omega (arith, inside-finds n table query z (inside.Row r) p .within, inside-passed n table query z .limited)
 
 -- ---- complete
 

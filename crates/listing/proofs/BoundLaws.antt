@@ -1,34 +1,30 @@
 -- How long the text of a table can be.
 --
 --   decimal-two, -three, -four   a number below 100, 1,000, 10,000 has at most two, three, four digits
---   Small u                no exponent of u is above 50
 --   rowLine-bound          the line of a row with at most 6 exponents, none above 50, has at most 23 bytes
---   degree-bound           and its degree is at most 300
---   largest-below          the largest exponents are at most what each given exponent is
---   completed-small        a completed table of rows with no exponent above 50 has no exponent above 50
 --   text-bound             the text of a table that passed the checks 1 to 4 has at most 94,229 bytes
-use mathlib.Core.Path.{_≡_, refl, sym, ap}
-use mathlib.Core.Bool.{Bool}
-use mathlib.Core.List.{List, [], _∷_, _++_, append-assoc, List·Memᴰ·head, List·Memᴰ·tail}
+use mathlib.Core.Path.{_≡_, sym}
+use mathlib.Core.List.{List, [], _∷_, _++_, append-assoc}
 use mathlib.Core.Logic.{by-cases}
 use Prim.Native.Nat.{ℕ, zero, suc, _+_, _*_, _/_, _^_, _≤_, _<_}
-use native.Mathlib.Nat.{max-le, le-trans, pow-le-pow-right}
+use native.Mathlib.Nat.{le-trans, pow-le-pow-right}
 use native.Mathlib.Decide.{decLe, decLt}
 use native.Mathlib.Omega.{arith}
-use lib.ListN.{length, getD, replicate, length-append, List·getD-eq-default}
-use Rattle.terms.specs.Tests.{pick, tests-lt, tests-true, tests-false}
-use Rattle.terms.specs.Monomials.{Monomial, Table, _!_, _∈_, rowAt, OfSize, degree}
+use lib.ListN.{length, getD, length-append}
+use Rattle.terms.specs.Tests.{pick-true, pick-false, tests-lt}
+use Rattle.terms.specs.Monomials.{Monomial, Table, _∈_, rowAt, AtMost}
 use Rattle.terms.specs.Rows.{rows}
-use Rattle.terms.proofs.RowsLaws.{member-at, member-index, rows-size, row-within, entry-at}
-use Rattle.terms.proofs.RefusalLaws.{TableAccepted}
+use Rattle.terms.proofs.MonomialLaws.{most-tail}
+use Rattle.terms.proofs.RowsLaws.{member-at, rows-size}
+use Rattle.terms.proofs.RefusalLaws.{TableAccepted, rows-small}
 use Rattle.division.specs.Janet.{tableMarks}
 use Rattle.division.proofs.MarksLaws.{tableMarks-at, marksOf-below}
-use Rattle.completion.specs.Completed.{completed, joined, largest}
+use Rattle.completion.specs.Completed.{completed}
 use Rattle.completion.specs.Operation.{completedOf}
-use Rattle.completion.proofs.CompletedLaws.{completed-within, completed-table}
-use Rattle.completion.proofs.CompletionLaws.{completion-size}
+use Rattle.completion.proofs.CompletedLaws.{completed-most}
+use Rattle.completion.proofs.OperationLaws.{completedOf-size}
 use Rattle.counting.specs.Counts.{steadyOf}
-use Rattle.counting.proofs.PolynomialLaws.{steady-least}
+use Rattle.counting.proofs.PolynomialLaws.{steady-most}
 use Rattle.listing.specs.Text.{decimal, space, rowLine, rowLines, tableLine, steadyLine, noRoomLine, wholeText, completedText, tableText}
 use Rattle.listing.specs.Written.{spaced}
 use Rattle.listing.proofs.TextLaws.{decimal-one-length, decimal-more-length, tableLine-length, steadyLine-length, noRoomLine-length, rowLine-length}
@@ -56,25 +52,15 @@ decimal-four x h = by-cases (decLt x 10) (λ l. omega (arith, decimal-digit x l)
 pow-le : (n : ℕ) → n ≤ 6 → 2 ^ n ≤ 64
 pow-le n h = le-trans (pow-le-pow-right (omega arith) h) (omega arith)
 
-abbrev pub Small : Monomial → Type 0
-Small u = (i : ℕ) → getD u i 0 ≤ 50
-
-spaced-bound : (u : Monomial) → Small u → length (spaced u) ≤ 3 * length u
+spaced-bound : (u : Monomial) → AtMost 50 u → length (spaced u) ≤ 3 * length u
 unfolding spaced
 spaced-bound [] s = omega arith
 spaced-bound (e ∷ u) s =
-    let first : e ≤ 50 = s 0 in
-    omega (arith, length-append (decimal e) (space ∷ spaced u), decimal-two e (omega arith), spaced-bound u (λ i. s (suc i)))
+    let first : e ≤ 50 = s 1 in
+    omega (arith, length-append (decimal e) (space ∷ spaced u), decimal-two e (omega arith), spaced-bound u (most-tail 50 e u s))
 
-pub rowLine-bound : (u : Monomial) (m : ℕ) → length u ≤ 6 → Small u → m < 100 → length (rowLine u m) ≤ 23
+pub rowLine-bound : (u : Monomial) (m : ℕ) → length u ≤ 6 → AtMost 50 u → m < 100 → length (rowLine u m) ≤ 23
 rowLine-bound u m l s h = omega (arith, rowLine-length u m, spaced-bound u s, decimal-two m h)
-
-pub degree-bound : (u : Monomial) → Small u → degree u ≤ 50 * length u
-unfolding degree
-degree-bound [] s = omega arith
-degree-bound (e ∷ u) s =
-    let first : e ≤ 50 = s 0 in
-    omega (arith, degree-bound u (λ i. s (suc i)))
 
 rowLines-bound : (H : Table) (marks : List ℕ) → ((k : ℕ) → k < length H → length (rowLine (rowAt H k) (getD marks k 0)) ≤ 23)
     → (k : ℕ) → k ≤ length H → length (rowLines H marks k) ≤ 23 * k
@@ -123,69 +109,33 @@ noRoomLine-bound j h = omega (arith, noRoomLine-length j, decimal-two j h, decim
 pub tableText-room : (n j : ℕ) (G : Table) → length (completed n G) ≤ 4096 → tableText n j G ≡ completedText n j (length G) (completed n G)
 unfolding tableText
 tableText-room n j G l =
-    ap (λ (c : Bool). pick c (noRoomLine j) (completedText n j (length G) (completed n G))) (sym (tests-false (tests-lt 4096 (length (completed n G))) (λ h. omega arith)))
+    sym (pick-false (tests-lt 4096 (length (completed n G))) (noRoomLine j) (completedText n j (length G) (completed n G)) (λ h. omega arith))
 
 pub tableText-full : (n j : ℕ) (G : Table) → 4096 < length (completed n G) → tableText n j G ≡ noRoomLine j
 unfolding tableText
 tableText-full n j G l =
-    ap (λ (c : Bool). pick c (noRoomLine j) (completedText n j (length G) (completed n G))) (sym (tests-true (tests-lt 4096 (length (completed n G))) l))
-
--- ---- the completed table
-
-joined-below : (u v : Monomial) (b : ℕ) → ((i : ℕ) → getD u i 0 ≤ b) → ((i : ℕ) → getD v i 0 ≤ b) → (i : ℕ) → getD (joined u v) i 0 ≤ b
-unfolding joined
-joined-below [] v b f g i = g i
-joined-below (a ∷ u) [] b f g i = f i
-joined-below (a ∷ u) (d ∷ v) b f g zero =
-    let x : a ≤ b = f 0 in
-    let y : d ≤ b = g 0 in
-    max-le x y
-joined-below (a ∷ u) (d ∷ v) b f g (suc i) = joined-below u v b (λ k. f (suc k)) (λ k. g (suc k)) i
-
-pub largest-below : (n : ℕ) (G : Table) (b : ℕ) → ((u : Monomial) → u ∈ G → (i : ℕ) → getD u i 0 ≤ b) → (i : ℕ) → getD (largest n G) i 0 ≤ b
-unfolding largest
-largest-below n [] b f i = zeros n i
-  where
-    zeros : (k i : ℕ) → getD (replicate k 0) i 0 ≤ b
-    zeros zero i = omega arith
-    zeros (suc k) zero = omega arith
-    zeros (suc k) (suc i) = zeros k i
-largest-below n (u ∷ G) b f i = joined-below u (largest n G) b (f u (List·Memᴰ·head refl)) (largest-below n G b (λ v m. f v (List·Memᴰ·tail m))) i
-
-pub completed-small : (n : ℕ) (G : Table) → OfSize n G → ((u : Monomial) → u ∈ G → Small u) → (u : Monomial) → u ∈ completed n G → Small u
-completed-small n G z f u m i =
-    let w : u ! suc i ≤ largest n G ! suc i = completed-within n G u (completed-table n G z .only u m) (suc i) in
-    omega (arith, w, largest-below n G 50 f i)
-
--- the entries of a table's rows are its bytes
-rows-small : (n : ℕ) (t : List ℕ) → TableAccepted n t → (u : Monomial) → u ∈ rows n t → Small u
-rows-small n t a u m i =
-    let r = member-index (rows n t) [] u m in
-    by-cases (decLt i n)
-    (λ l. let e = entry-at n t (r .0) i (r .1) l in
-    let within : r .0 * n + i < length t = omega (arith, row-within n t (r .0) (r .1)) in
-    omega (arith, e, ap (λ (v : Monomial). getD v i 0) (r .2), a .small (getD t (r .0 * n + i) 0) (member-at t 0 (r .0 * n + i) within)))
-    (λ g. let e : getD u i 0 ≡ 0 = List·getD-eq-default u 0 (omega (arith, rows-size n t u m)) in omega arith)
+    sym (pick-true (tests-lt 4096 (length (completed n G))) (noRoomLine j) (completedText n j (length G) (completed n G)) l)
 
 -- ---- the text of a table
 
 module _ (n j : ℕ) (t : List ℕ) (a : TableAccepted n t) where
+  -- the completed rows have no exponent above 50, as the given ones have none
+  small : (u : Monomial) → u ∈ completedOf n t → AtMost 50 u
+  small = completed-most 50 n (rows n t) (rows-size n t) (rows-small n t a)
+
   row-bound : (k : ℕ) → k < length (completedOf n t) → length (rowLine (rowAt (completedOf n t) k) (getD (tableMarks n (completedOf n t)) k 0)) ≤ 23
   row-bound k h =
-      let z = rows-size n t in
       let H : Table = completedOf n t in
       let u : Monomial = rowAt H k in
       let m : u ∈ H = member-at H [] k h in
       let power : 2 ^ n ≤ 64 = pow-le n (a .few) in
       rowLine-bound u (getD (tableMarks n H) k 0)
-      (omega (arith, completion-size (completed-table n (rows n t) z) u m, a .few))
-      (completed-small n (rows n t) z (rows-small n t a) u m)
+      (omega (arith, completedOf-size n t u m, a .few))
+      (small u m)
       (omega (arith, tableMarks-at n H k h, marksOf-below n H u))
 
   steady-bound : steadyOf (completedOf n t) ≤ 300
-  steady-bound = steady-least (completedOf n t) 300 (λ u m.
-      let z = rows-size n t in
-      omega (arith, degree-bound u (completed-small n (rows n t) z (rows-small n t a) u m), completion-size (completed-table n (rows n t) z) u m, a .few))
+  steady-bound = omega (arith, steady-most n 50 (completedOf n t) (completedOf-size n t) small, a .few)
 
   made-bound : j < 100 → length (completedOf n t) ≤ 4096 → length (completedText n j (length (rows n t)) (completedOf n t)) ≤ 94229
   unfolding completedText

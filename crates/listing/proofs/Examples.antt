@@ -11,6 +11,7 @@ use Rattle.terms.specs.Monomials.{degree}
 use Rattle.terms.specs.Ideal.{dividesTest, insideTest}
 use Rattle.terms.specs.Rows.{rows, firstRows}
 use Rattle.terms.specs.Refusals.{refusal}
+use Rattle.terms.specs.ExampleTables.{bundleD}
 use Rattle.division.specs.Janet.{tableMarks, marksOf, marksByte, multiplicativeTest, group, sameBeforeTest}
 use Rattle.completion.specs.Blocks.{box, behind, repeated}
 use Rattle.completion.specs.Completed.{completed, completedTest, entersTest, candidate, largest, joined}
@@ -33,7 +34,7 @@ fiveLines =
     ++ (50 ∷ 32 ∷ 49 ∷ 32 ∷ 58 ∷ 32 ∷ 51 ∷ 10 ∷ [])
     ++ (83 ∷ 32 ∷ 51 ∷ 10 ∷ [])
 
-pub listing : bundleText (2 ∷ 1 ∷ 2 ∷ 0 ∷ 6 ∷ 0 ∷ 2 ∷ 1 ∷ 0 ∷ 2 ∷ []) ≡ fiveLines
+pub listing : bundleText bundleD ≡ fiveLines
 unfolding output
 listing = refl
 

@@ -9,7 +9,6 @@
 --   part-unique, part-front   the promise allows one result, and the front of the buffer is the part
 --   bundle-parts           the whole output is its 16 parts, one behind the other
 use mathlib.Core.Path.{_≡_, refl, sym, ap, _∙_}
-use mathlib.Core.Bool.{Bool}
 use mathlib.Core.List.{List, [], _++_, append-nil}
 use mathlib.Core.Logic.{by-cases}
 use Prim.Native.Nat.{ℕ, zero, suc, _+_, _*_, _-_, _≤_, _<_}
@@ -19,17 +18,16 @@ use native.Mathlib.Omega.{arith}
 use lib.Dec.{eqb, ltb}
 use lib.ListN.{length, take, drop, length-append}
 use lib.Seq.{take-append-seam}
-use Rattle.terms.specs.Tests.{pick, tests-lt, tests-eq, tests-true, tests-false}
+use Rattle.terms.specs.Tests.{pick, pick-true, pick-false, tests-lt, tests-eq}
 use Rattle.terms.specs.Rows.{rows}
 use Rattle.terms.specs.Refusals.{refusal, tableChecks}
-use Rattle.terms.proofs.RefusalLaws.{accepted, table-accepted, refusal-append, refusal-passes}
+use Rattle.terms.proofs.RefusalLaws.{table-passed}
 use Rattle.bundle.specs.Format.{variablesOf, tableCount, bodyOf, tableOf}
-use Rattle.bundle.specs.Checks.{bundleChecks, numberChecks, openChecks}
+use Rattle.bundle.specs.Checks.{bundleChecks, openChecks}
 use Rattle.bundle.specs.Operation.{LocatePromise}
 use Rattle.bundle.specs.declared.Located.{Located}
-use Rattle.bundle.proofs.CheckLaws.{refusal-none}
 use Rattle.bundle.proofs.AcceptedLaws.{accepted-bundle, table-passes-checks}
-use Rattle.bundle.proofs.ReadLaws.{opened-is, open-accepted, body-shown}
+use Rattle.bundle.proofs.ReadLaws.{opened-is, opens-table, open-accepted, body-shown}
 use Rattle.listing.specs.Text.{refusalLine, tableText, tablesText, bundleText, partText, partsText}
 use Rattle.listing.specs.Written.{written, Wrote}
 use Rattle.listing.specs.Operation.{PartPromise}
@@ -42,36 +40,28 @@ refused-part : (b : List ℕ) (j : ℕ) {m : ℕ} → m ≡ refusal (bundleCheck
 unfolding partText
 refused-part b j {m} e f =
     ap (λ (k : ℕ). pick (eqb j 0) (refusalLine k) []) e
-    ∙ ap (λ (c : Bool). pick c (pick (ltb j (tableCount b)) (tableText (variablesOf b) j (tableOf b j)) []) (pick (eqb j 0) (refusalLine (refusal (bundleChecks b))) []))
-    (tests-false (tests-eq (refusal (bundleChecks b)) 0) (λ z. f (e ∙ z)))
+    ∙ pick-false (tests-eq (refusal (bundleChecks b)) 0) _ _ (λ z. f (e ∙ z))
 
 accepted-part : (b : List ℕ) (j : ℕ) → refusal (bundleChecks b) ≡ 0 → pick (ltb j (tableCount b)) (tableText (variablesOf b) j (tableOf b j)) [] ≡ partText b j
 unfolding partText
-accepted-part b j e =
-    ap (λ (c : Bool). pick c (pick (ltb j (tableCount b)) (tableText (variablesOf b) j (tableOf b j)) []) (pick (eqb j 0) (refusalLine (refusal (bundleChecks b))) []))
-    (tests-true (tests-eq (refusal (bundleChecks b)) 0) e)
+accepted-part b j e = pick-true (tests-eq (refusal (bundleChecks b)) 0) _ _ e
 
 pub part-refused : (b : List ℕ) (j : ℕ) {m : ℕ} → m ≡ refusal (bundleChecks b) → (m ≡ 0 → ⊥) → j ≡ 0 → refusalLine m ≡ partText b j
-part-refused b j {m} e f z = ap (λ (c : Bool). pick c (refusalLine m) []) (tests-true (tests-eq j 0) z) ∙ refused-part b j e f
+part-refused b j {m} e f z = pick-true (tests-eq j 0) (refusalLine m) [] z ∙ refused-part b j e f
 
 pub part-silent : (b : List ℕ) (j : ℕ) {m : ℕ} → m ≡ refusal (bundleChecks b) → (m ≡ 0 → ⊥) → (j ≡ 0 → ⊥) → [] ≡ partText b j
-part-silent b j {m} e f z = ap (λ (c : Bool). pick c (refusalLine m) []) (tests-false (tests-eq j 0) z) ∙ refused-part b j e f
+part-silent b j {m} e f z = pick-false (tests-eq j 0) (refusalLine m) [] z ∙ refused-part b j e f
 
 past-part : (b : List ℕ) (j : ℕ) → refusal (bundleChecks b) ≡ 0 → (j < tableCount b → ⊥) → [] ≡ partText b j
 past-part b j e g =
-    ap (λ (c : Bool). pick c (tableText (variablesOf b) j (tableOf b j)) []) (tests-false (tests-lt j (tableCount b)) g) ∙ accepted-part b j e
+    pick-false (tests-lt j (tableCount b)) (tableText (variablesOf b) j (tableOf b j)) [] g ∙ accepted-part b j e
 
 pub table-part : (b : List ℕ) (j : ℕ) → refusal (bundleChecks b) ≡ 0 → j < tableCount b → tableText (variablesOf b) j (tableOf b j) ≡ partText b j
 table-part b j e h =
-    ap (λ (c : Bool). pick c (tableText (variablesOf b) j (tableOf b j)) []) (tests-true (tests-lt j (tableCount b)) h) ∙ accepted-part b j e
-
--- table j of an accepted bundle is opened where there is one
-opens-table : (b : List ℕ) (j : ℕ) → refusal (bundleChecks b) ≡ 0 → j < tableCount b → refusal (openChecks b j) ≡ 0
-opens-table b j e h =
-    refusal-append (bundleChecks b) (numberChecks b j) (accepted (bundleChecks b) e) ∙ refusal-passes _ _ (λ (l : tableCount b ≤ j). omega arith) ∙ refusal-none
+    pick-true (tests-lt j (tableCount b)) (tableText (variablesOf b) j (tableOf b j)) [] h ∙ accepted-part b j e
 
 pub part-none : (b : List ℕ) (j : ℕ) {m : ℕ} {f : Located} → m ≡ refusal (bundleChecks b) → m ≡ 0 → LocatePromise b j f → (f .refusal ≡ 0 → ⊥) → [] ≡ partText b j
-part-none b j e z p g = past-part b j (sym e ∙ z) (λ h. g (p .number ∙ opens-table b j (sym e ∙ z) h))
+part-none b j e z p g = past-part b j (sym e ∙ z) (λ h. g (p .number ∙ sym (opens-table b j (sym e ∙ z) h)))
 
 pub refusalLine-bound : (m : ℕ) → m < 256 → length (refusalLine m) ≤ 94229
 refusalLine-bound m h = omega (arith, refusalLine-length m, decimal-three m (omega arith))
@@ -99,7 +89,7 @@ part-found b j {f = f} g y p z =
     record {
       checks = checks;
       text = rw (body, n) (table-part b j (sym g ∙ y) (a .1));
-      bound = text-bound (f .n) j (cut b f) (table-accepted (f .n) (cut b f) (accepted (tableChecks (f .n) (cut b f)) checks)) (omega (arith, a .1));
+      bound = text-bound (f .n) j (cut b f) (table-passed (f .n) (cut b f) 0 (sym checks) refl) (omega (arith, a .1));
     }
 
 -- ---- what is promised of a part
@@ -130,12 +120,12 @@ part-front {b} {j} {before} p = rw (p .counts, p .writes) (take-append-seam (par
 accepted-text : (b : List ℕ) → refusal (bundleChecks b) ≡ 0 → tablesText b 0 (tableCount b) ≡ bundleText b
 unfolding bundleText
 accepted-text b e =
-    ap (λ (c : Bool). pick c (tablesText b 0 (tableCount b)) (refusalLine (refusal (bundleChecks b)))) (tests-true (tests-eq (refusal (bundleChecks b)) 0) e)
+    pick-true (tests-eq (refusal (bundleChecks b)) 0) (tablesText b 0 (tableCount b)) (refusalLine (refusal (bundleChecks b))) e
 
 refused-text : (b : List ℕ) → (refusal (bundleChecks b) ≡ 0 → ⊥) → refusalLine (refusal (bundleChecks b)) ≡ bundleText b
 unfolding bundleText
 refused-text b f =
-    ap (λ (c : Bool). pick c (tablesText b 0 (tableCount b)) (refusalLine (refusal (bundleChecks b)))) (tests-false (tests-eq (refusal (bundleChecks b)) 0) f)
+    pick-false (tests-eq (refusal (bundleChecks b)) 0) (tablesText b 0 (tableCount b)) (refusalLine (refusal (bundleChecks b))) f
 
 -- parts of which each is empty
 silent-parts : (b : List ℕ) (m j : ℕ) → ((i : ℕ) → j ≤ i → [] ≡ partText b i) → [] ≡ partsText b j m

@@ -7,8 +7,8 @@
 use mathlib.Core.Path.{_≡_, refl, sym, ap, _∙_, subst}
 use mathlib.Core.List.{List, _++_}
 use mathlib.Core.Logic.{by-cases}
-use Prim.Native.Nat.{ℕ, zero, suc, _*_, _/_, _≤_, _<_}
-use native.Mathlib.Nat.{le-min, le-div-iff-mul-le, min-le-left}
+use Prim.Native.Nat.{ℕ, zero, suc, _*_, _≤_, _<_}
+use native.Mathlib.Nat.{le-min, le-div-iff-mul-le}
 use native.Mathlib.Decide.{decLe}
 use native.Mathlib.Omega.{arith}
 use lib.ListN.{length, take, drop, length-append, List·getD-append}
@@ -18,7 +18,7 @@ use Rattle.terms.specs.Order.{Ascending}
 use Rattle.terms.specs.Rows.{rows, flat}
 use Rattle.terms.specs.Refusals.{refusal, Accepts, tableChecks}
 use Rattle.terms.proofs.RowsLaws.{length-flat, rows-flat, rows-size}
-use Rattle.terms.proofs.RefusalLaws.{TableAccepted, table-accepted, accepted}
+use Rattle.terms.proofs.RefusalLaws.{TableAccepted, table-accepted, table-passed, accepted}
 use Rattle.division.specs.Janet.{tableMarks}
 use Rattle.division.specs.Marking.{marked}
 use Rattle.division.proofs.MarksLaws.{length-tableMarks}
@@ -26,7 +26,7 @@ use Rattle.completion.specs.Operation.{roomFor, completedOf, CompletePromise}
 use Rattle.completion.specs.declared.CompleteAnswer.{CompleteAnswer}
 use Rattle.completion.specs.declared.CompleteAnswer.the-variants.{Rows, Refused}
 use Rattle.completion.proofs.CompletedLaws.{completed-table}
-use Rattle.completion.proofs.OperationLaws.{complete-unique, complete-accepts, complete-count, complete-kept, complete-length, room-enough, room-fits, accepted-room, completedOf-size}
+use Rattle.completion.proofs.OperationLaws.{complete-unique, complete-accepts, complete-count, complete-kept, complete-length, room-enough, room-fits, accepted-room, room-limited, completedOf-size}
 use Rattle.counting.specs.Counts.{steadyOf}
 use Rattle.listing.specs.Text.{rowLines, tableLine, steadyLine, wholeText, completedText, tableText}
 use Rattle.listing.proofs.BoundLaws.{tableText-room}
@@ -60,14 +60,10 @@ pub record Made (n : ℕ) (table : List ℕ) (k : ℕ) (after : List ℕ) : Type
   pub limited : length (completedOf n table) ≤ 4096
   pub ascends : Ascending (completedOf n table)
 
-room-limit : (n size : ℕ) → roomFor n size ≤ 4096
-unfolding roomFor
-room-limit n size = min-le-left 4096 (size / n)
-
 pub made-rows : {n : ℕ} {table buffer : List ℕ} {answer : CompleteAnswer} {k : ℕ} {after : List ℕ} → refusal (tableChecks n table) ≡ 0
     → CompletePromise n table buffer answer after → answer ≡ Rows k → Made n table k after
 made-rows {n} {table} {buffer} {answer} {k} {after} r q e =
-    let t : TableAccepted n table = table-accepted n table (accepted (tableChecks n table) r) in
+    let t : TableAccepted n table = table-passed n table 0 (sym r) refl in
     let p : CompletePromise n table buffer (Rows k) after = subst (λ (r : CompleteAnswer). CompletePromise n table buffer r after) e q in
     let H : Table = completedOf n table in
     let z = completedOf-size n table in
@@ -81,7 +77,7 @@ made-rows {n} {table} {buffer} {answer} {k} {after} r q e =
       fits = omega (arith, room-fits n (length buffer) k (omega arith), complete-length p);
       size = ap length front ∙ length-flat n H z ∙ ap (λ (m : ℕ). m * n) (sym counted);
       same = ap (rows n) front ∙ rows-flat n H (t .some) z;
-      limited = omega (arith, room-limit n (length buffer));
+      limited = omega (arith, room-limited n (length buffer));
       ascends = completed-table n (rows n table) (rows-size n table) .ascends;
     }
 

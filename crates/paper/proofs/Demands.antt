@@ -2,8 +2,8 @@
 --
 --   settled       a number that is the refusal of a list of checks settles the list
 --   demand-one, demand-two, demand-three
-use mathlib.Core.Path.{_≡_, refl, sym, ap, _∙_, subst}
-use mathlib.Core.List.{List, [], _∷_, _++_, List·Memᴰ·head, List·Memᴰ·tail, Memᴰ·append-left}
+use mathlib.Core.Path.{_≡_, sym, ap, _∙_, subst}
+use mathlib.Core.List.{List, [], _∷_, _++_}
 use mathlib.Core.Logic.{by-cases, _↔_}
 use mathlib.Core.Option.{Option, some}
 use denote.Ref.{now}
@@ -11,16 +11,15 @@ use Prim.Native.Nat.{ℕ, _+_, _*_, _/_, _%_, _^_, _≤_, _<_}
 use native.Mathlib.Nat.{le-trans}
 use native.Mathlib.Decide.{decLt}
 use native.Mathlib.Omega.{arith}
-use lib.Dec.{lit<}
 use lib.ListN.{length, take, drop}
 use lib.Seq.{take-at}
 use Rattle.terms.specs.Monomials.{Monomial, Table, _!_, degree}
 use Rattle.terms.specs.Order.{Ascending}
-use Rattle.terms.specs.Tests.{tests-lt}
 use Rattle.terms.specs.Rows.{rows, firstRows, flat}
-use Rattle.terms.specs.Refusals.{Check, Accepts, Refuses, refusal, check, tableChecks}
+use Rattle.terms.specs.Refusals.{Check, Accepts, Refuses, refusal, tableChecks}
 use Rattle.terms.proofs.RowsLaws.{rows-size, rows-flat, length-flat}
-use Rattle.terms.proofs.RefusalLaws.{TableAccepted, table-accepted, accepted, accepts-nil, accepts-cons, accepts-refusal, refusal-refuses, refuses-refusal}
+use Rattle.terms.proofs.RefusalLaws.{accepted, accepts-nil, accepts-cons, accepts-left, accepts-append, accepts-refusal, refusal-refuses, refuses-refusal}
+use Rattle.terms.proofs.RefusalLaws.{TableAccepted, table-accepted, accepts-table, rows-small}
 use Rattle.division.specs.Janet.{Multiplicative, Complete}
 use Rattle.division.specs.Operations.{FindPromise, lengthCheck, orderCheck, findChecks, findNumber, findRow, findSteps}
 use Rattle.division.proofs.FindLaws.{find-finds, find-steps, find-ready}
@@ -28,13 +27,13 @@ use Rattle.completion.specs.Completed.{CompletedTable}
 use Rattle.completion.specs.Operation.{CompletePromise, completeChecks, completeNumber, completeRows, completedOf, roomFor}
 use Rattle.completion.specs.declared.CompleteAnswer.{CompleteAnswer}
 use Rattle.completion.specs.declared.CompleteAnswer.the-variants.{Rows, Refused}
-use Rattle.completion.proofs.CompletedLaws.{completed-table, completed-unique}
+use Rattle.completion.proofs.CompletedLaws.{completed-table, completed-unique, completed-most}
 use Rattle.completion.proofs.CompletionLaws.{completion-ideal, completion-complete, completion-one, completion-none, completion-size}
 use Rattle.completion.proofs.OperationLaws.{complete-unique, complete-accepts, complete-refuses, complete-count, complete-rows, complete-behind, complete-kept, room-enough, no-room, accepted-room, room-limited}
 use Rattle.counting.specs.Counts.{CountsOutside, countAt}
 use Rattle.counting.proofs.CountLaws.{count-outside}
 use Rattle.division.proofs.Cover.{inside-divisor}
-use Rattle.counting.specs.Operations.{CountPromise, countChecks, countNumber, countValue, tests-notAscending, tests-notComplete}
+use Rattle.counting.specs.Operations.{CountPromise, degreeCheck, completeCheck, orderChecks, countChecks, countNumber, countValue}
 use Rattle.counting.specs.declared.CountAnswer.{CountAnswer}
 use Rattle.terms.specs.Ideal.{Inside}
 use Rattle.division.specs.Cones.{DivisorAt}
@@ -55,7 +54,7 @@ use Rattle.bundle.specs.Checks.{openChecks}
 use Rattle.bundle.specs.Operation.{opened}
 use Rattle.bundle.proofs.ReadLaws.{refused-is}
 use Rattle.paper.specs.Demands.{Settled, DemandOne, DemandTwo, DemandThree, Completion, Marking, OneDivisor}
-use Rattle.paper.proofs.EndToEnd.{outside-ideal, flat-accepted, completed-entries}
+use Rattle.paper.proofs.EndToEnd.{outside-ideal, flat-accepted}
 
 -- ---- the first demand
 
@@ -66,12 +65,6 @@ settled checks number e = record {
   refuses = λ m r. e ∙ refuses-refusal checks m r;
   refused = λ p. subst (λ (m : ℕ). Refuses checks m) (sym e) (refusal-refuses checks (omega arith));
 }
-
--- lists that accept, one behind the other
-accepts-append : (earlier : List Check) {checks : List Check} → Accepts earlier → Accepts checks → Accepts (earlier ++ checks)
-accepts-append [] a b = b
-accepts-append (c ∷ earlier) {checks} a b =
-    accepts-cons c (earlier ++ checks) (a c (List·Memᴰ·head refl)) (accepts-append earlier (λ d m. a d (List·Memᴰ·tail m)) b)
 
 -- a refused completion leaves the buffer
 complete-leaves : (n : ℕ) (table buffer : List ℕ) (answer : CompleteAnswer) (after : List ℕ) → CompletePromise n table buffer answer after
@@ -206,7 +199,7 @@ module _ (n : ℕ) (table buffer : List ℕ) (k : ℕ) (after : List ℕ) (p : C
       rw (complete-count p, u .1) (take-at (flat H) (drop (length H * n) buffer) (length H * n) (length-flat n H (completion-size is)))
 
   passed : Accepts (tableChecks n table)
-  passed c m = accepted (completeChecks n table (length buffer)) (sym (p .number)) c (Memᴰ·append-left _ m)
+  passed = accepts-left (tableChecks n table) _ (accepted (completeChecks n table (length buffer)) (sym (p .number)))
 
   given : TableAccepted n table
   given = table-accepted n table passed
@@ -217,15 +210,16 @@ module _ (n : ℕ) (table buffer : List ℕ) (k : ℕ) (after : List ℕ) (p : C
   -- they are within the limits
   bytes-accepted : Accepts (tableChecks n (flat H))
   bytes-accepted =
-      flat-accepted n H (given .some) (given .few) (completion-size is) (le-trans (accepted-room n table (length buffer) (sym (p .number))) (room-limited n (length buffer)))
-      (completed-entries n table passed)
+      accepts-table n (flat H) (flat-accepted n H (given .some) (given .few) (completion-size is)
+      (le-trans (accepted-room n table (length buffer) (sym (p .number))) (room-limited n (length buffer)))
+      (completed-most 50 n (rows n table) (rows-size n table) (rows-small n table given)))
 
   -- they pass every check of count
   counted : (s : ℕ) → s ≤ 300 → Accepts (countChecks n (flat H) s)
-  counted s l = accepts-append (tableChecks n (flat H)) bytes-accepted
-      (accepts-cons (check 5 (lit< tt) (tests-lt 300 s)) _ (λ h. omega (arith, h))
-      (accepts-cons (check 6 (lit< tt) (tests-notAscending n (flat H))) _ (λ h. h (subst Ascending same-rows (is .ascends)))
-      (accepts-cons (check 7 (lit< tt) (tests-notComplete n (flat H))) _ (λ h. h (subst (Complete n) same-rows (completion-complete n (rows n table) (rows-size n table) is))) accepts-nil)))
+  counted s l = accepts-append (tableChecks n (flat H)) (degreeCheck s ∷ orderChecks n (flat H)) bytes-accepted
+      (accepts-cons (degreeCheck s) _ (λ h. omega (arith, h))
+      (accepts-cons (orderCheck n (flat H)) _ (λ h. h (subst Ascending same-rows (is .ascends)))
+      (accepts-cons (completeCheck n (flat H)) _ (λ h. h (subst (Complete n) same-rows (completion-complete n (rows n table) (rows-size n table) is))) accepts-nil)))
 
   count-answers : (s : ℕ) → s ≤ 300 → (answer : CountAnswer) → CountPromise n (flat H) s answer
       → (countNumber answer ≡ 0) × CountsOutside n (rows n table) s (countValue answer)
@@ -241,7 +235,7 @@ module _ (n : ℕ) (table buffer : List ℕ) (k : ℕ) (after : List ℕ) (p : C
       → (findNumber answer ≡ 0) × (((r : ℕ) × (findRow answer ≡ some r)) ↔ Inside (rows n table) query)
   find-answers query e answer f =
       let z : findNumber answer ≡ 0 = f .number ∙ accepts-refusal (findChecks n (flat H) query)
-      (accepts-append (tableChecks n (flat H)) bytes-accepted
+      (accepts-append (tableChecks n (flat H)) (lengthCheck n query ∷ (orderCheck n (flat H) ∷ [])) bytes-accepted
       (accepts-cons (lengthCheck n query) _ (λ h. h e) (accepts-cons (orderCheck n (flat H)) _ (λ h. h (subst Ascending same-rows (is .ascends))) accepts-nil))) in
       let found = found-divides n (flat H) query answer f z in (
         z,

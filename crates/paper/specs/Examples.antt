@@ -1,14 +1,17 @@
 -- The paper's starred examples, A to J, of the rules themselves, under one statement.
 --
 --   StarredExamples   a field for each example
---   tableD, tableF, tableI ..   the tables that they speak of; completedD .. their completed tables
+--   Gives d o k       a descent gives this row number, in so many steps
+--
+-- The tables that they speak of, tableB to completedI, stand in `terms/specs/ExampleTables`.
 use mathlib.Core.Path.{_≡_}
 use mathlib.Core.List.{List, [], _∷_}
 use mathlib.Core.Option.{Option, none, some}
 use Prim.Native.Nat.{ℕ}
 use lib.IntN.{pos}
 use lib.ListN.{length}
-use Rattle.terms.specs.Monomials.{Monomial, Table}
+use Rattle.terms.specs.Monomials.{Monomial}
+use Rattle.terms.specs.ExampleTables.{tableB, tableC, tableD, bytesD, completedD, tableE, completedE, tableF, completedF, tableI, completedI}
 use Rattle.division.specs.Janet.{Complete, tableMarks}
 use Rattle.division.specs.Descent.{Descent, descent}
 use Rattle.completion.specs.Completed.{CompletedTable}
@@ -16,37 +19,6 @@ use Rattle.completion.specs.Operation.{CompletePromise}
 use Rattle.completion.specs.declared.CompleteAnswer.{CompleteAnswer}
 use Rattle.completion.specs.declared.CompleteAnswer.the-variants.{Rows, Refused}
 use Rattle.counting.specs.Counts.{countAt, polynomialAt}
-
-abbrev pub tableB : Table
-tableB = (0 ∷ 0 ∷ []) ∷ []
-
-abbrev pub tableC : Table
-tableC = (3 ∷ []) ∷ []
-
-abbrev pub tableD : Table
-tableD = (2 ∷ 1 ∷ []) ∷ (0 ∷ 2 ∷ []) ∷ []
-
-abbrev pub completedD : Table
-completedD = (0 ∷ 2 ∷ []) ∷ (1 ∷ 2 ∷ []) ∷ (2 ∷ 1 ∷ []) ∷ []
-
-abbrev pub tableE : Table
-tableE = (1 ∷ 0 ∷ []) ∷ (1 ∷ 0 ∷ []) ∷ []
-
--- document 002, example 5.2
-abbrev pub tableF : Table
-tableF = (0 ∷ 0 ∷ 2 ∷ []) ∷ (0 ∷ 1 ∷ 1 ∷ []) ∷ (0 ∷ 2 ∷ 0 ∷ []) ∷ (1 ∷ 0 ∷ 1 ∷ []) ∷ (3 ∷ 1 ∷ 0 ∷ []) ∷ []
-
-abbrev pub completedF : Table
-completedF =
-    (0 ∷ 0 ∷ 2 ∷ []) ∷ (0 ∷ 1 ∷ 1 ∷ []) ∷ (0 ∷ 2 ∷ 0 ∷ []) ∷ (1 ∷ 0 ∷ 1 ∷ []) ∷ (1 ∷ 1 ∷ 1 ∷ []) ∷ (1 ∷ 2 ∷ 0 ∷ [])
-    ∷ (2 ∷ 0 ∷ 1 ∷ []) ∷ (2 ∷ 1 ∷ 1 ∷ []) ∷ (2 ∷ 2 ∷ 0 ∷ []) ∷ (3 ∷ 0 ∷ 1 ∷ []) ∷ (3 ∷ 1 ∷ 0 ∷ []) ∷ []
-
--- document 004, example 5.10, columns reversed
-abbrev pub tableI : Table
-tableI = (0 ∷ 1 ∷ 1 ∷ []) ∷ (1 ∷ 1 ∷ 0 ∷ []) ∷ (0 ∷ 2 ∷ 0 ∷ []) ∷ (3 ∷ 0 ∷ 0 ∷ []) ∷ []
-
-abbrev pub completedI : Table
-completedI = (0 ∷ 1 ∷ 1 ∷ []) ∷ (0 ∷ 2 ∷ 0 ∷ []) ∷ (1 ∷ 1 ∷ 0 ∷ []) ∷ (2 ∷ 1 ∷ 0 ∷ []) ∷ (3 ∷ 0 ∷ 0 ∷ []) ∷ []
 
 -- a descent gives this row number, in so many steps
 pub record Gives (d : Descent) (o : Option ℕ) (k : ℕ) : Type 0 where
@@ -63,7 +35,7 @@ pub record StarredExamples : Type 0 where
   -- the listing: its completed rows and their marks; count at 3 is 6, polynomial at 0 is 3 while the count is 1
   pub D : CompletedTable 2 tableD completedD × (tableMarks 2 completedD ≡ 2 ∷ 2 ∷ 3 ∷ []) × (countAt 2 completedD 3 ≡ 6) × (polynomialAt 2 completedD 0 ≡ pos 3) × (countAt 2 completedD 0 ≡ 1)
   -- rows 1 0 and 1 0: completed to one row
-  pub E : CompletedTable 2 tableE ((1 ∷ 0 ∷ []) ∷ [])
+  pub E : CompletedTable 2 tableE completedE
   -- marks 4, 4, 6, 6, 7; not complete
   pub F : (tableMarks 3 tableF ≡ 4 ∷ 4 ∷ 6 ∷ 6 ∷ 7 ∷ []) × (Complete 3 tableF → ⊥)
   -- in F, find of 1 2 5 gives row 3 in 4 steps; of 2 0 1, none in 2 steps
@@ -72,5 +44,5 @@ pub record StarredExamples : Type 0 where
   pub H : CompletedTable 3 tableF completedF × (length completedF ≡ 11)
   pub I : CompletedTable 3 tableI completedI
   -- D's rows with 6 bytes of room are accepted, with 5 refused by 8
-  pub J : ((buffer : List ℕ) (answer : CompleteAnswer) (after : List ℕ) → length buffer ≡ 6 → CompletePromise 2 (2 ∷ 1 ∷ 0 ∷ 2 ∷ []) buffer answer after → answer ≡ Rows 3)
-      × ((buffer : List ℕ) (answer : CompleteAnswer) (after : List ℕ) → length buffer ≡ 5 → CompletePromise 2 (2 ∷ 1 ∷ 0 ∷ 2 ∷ []) buffer answer after → answer ≡ Refused 8)
+  pub J : ((buffer : List ℕ) (answer : CompleteAnswer) (after : List ℕ) → length buffer ≡ 6 → CompletePromise 2 bytesD buffer answer after → answer ≡ Rows 3)
+      × ((buffer : List ℕ) (answer : CompleteAnswer) (after : List ℕ) → length buffer ≡ 5 → CompletePromise 2 bytesD buffer answer after → answer ≡ Refused 8)

@@ -5,17 +5,19 @@
 --   before-suc, before-zero  equal before the next variable, and before the first
 --   same-all               monomials of one size that are equal before each variable are equal
 --   at-or-other, three     cases on a variable: i itself or another; before i, i, behind i
+--   most-by, most-tail     no exponent above b, of the exponents as a list, and behind the first
 --   degree-le              a monomial that divides another has no larger degree
+--   degree-most            where no exponent is above b, the degree is at most b for each variable
 use mathlib.Core.Path.{_≡_, refl, sym, ap, subst}
 use mathlib.Core.List.{[], _∷_}
 use mathlib.Core.Logic.{_⊎_, inl, inr, ⊎-elim, by-cases}
-use Prim.Native.Nat.{ℕ, zero, suc, _+_, _≤_, _<_}
+use Prim.Native.Nat.{ℕ, zero, suc, _+_, _*_, _≤_, _<_}
 use native.Mathlib.Nat.{not-suc-le-zero, eq-or-lt-of-le, le-of-suc-le-suc}
 use native.Mathlib.Decide.{decLe, decLt, ℕ-discrete}
 use native.Mathlib.Omega.{arith}
-use lib.ListN.{length, length-set, List·getD-eq-default}
+use lib.ListN.{length, getD, length-set, List·getD-eq-default}
 use lib.Seq.{getD-set-same, getD-set-other, set-out, ext-getD}
-use Rattle.terms.specs.Monomials.{Monomial, _!_, SameBefore, times, degree}
+use Rattle.terms.specs.Monomials.{Monomial, _!_, SameBefore, AtMost, times, degree}
 
 -- ---- exponents
 
@@ -34,6 +36,13 @@ positive u (suc i) h = omega arith
 pub tail-at : (a : ℕ) (u : Monomial) (i : ℕ) → 0 < i → (a ∷ u) ! suc i ≡ u ! i
 tail-at a u zero p = absurd (not-suc-le-zero p)
 tail-at a u (suc i) p = refl
+
+pub most-by : (b : ℕ) (u : Monomial) → ((i : ℕ) → getD u i 0 ≤ b) → AtMost b u
+most-by b u h zero = omega arith
+most-by b u h (suc i) = h i
+
+pub most-tail : (b a : ℕ) (u : Monomial) → AtMost b (a ∷ u) → AtMost b u
+most-tail b a u h = most-by b u (λ i. h (suc (suc i)))
 
 -- ---- cases on a variable
 
@@ -118,3 +127,8 @@ degree-le (a ∷ u) (b ∷ v) h = omega (arith, h 1, degree-le u v rest)
     rest : (i : ℕ) → u ! i ≤ v ! i
     rest zero = omega arith
     rest (suc i) = h (suc (suc i))
+
+pub degree-most : (b : ℕ) (u : Monomial) → AtMost b u → degree u ≤ length u * b
+unfolding degree
+degree-most b [] h = omega arith
+degree-most b (a ∷ u) h = omega (arith, h 1, degree-most b u (most-tail b a u h))

@@ -2,21 +2,34 @@
 --
 --   refusal-refuses, refuses-refusal   the number that is computed is the number given
 --   accepted, accepts-refusal          0 is computed exactly where no condition holds
---   refusal-append, refusal-first      the refusal of a list in two parts
+--   accepts-head, accepts-tail, accepts-left, accepts-right   what passes a list passes each part
+--   accepts-cons, accepts-append       and what passes each part passes the list
+--   refusal-append, refusal-first      the refusal of a list in two parts: the second decides, or the first does
+--   refuses-first, passes-first        the same of a number that was computed
+--   first-passes, rest-passes          where the list refuses nothing, neither part does
 --   TableAccepted, table-accepted      what is known of a table that passed the checks 1 to 4
+--   accepts-table                      and that this is enough to pass them
+--   table-passed, table-listed         where their refusal is 0, alone or in front of other checks
+--   entries-small, rows-small          no exponent of a row of it is above 50, by number and by membership
+--   degree-small                       and no degree is above 300
 use mathlib.Core.Path.{_≡_, refl, sym, ap, _∙_, subst}
 use mathlib.Core.Bool.{Bool, true, false}
 use mathlib.Core.List.{List, [], _∷_, _++_, List·Memᴰ, List·Memᴰ·head, List·Memᴰ·tail, List·Memᴰ·cases-cons, List·Memᴰ·not-nil}
+use mathlib.Core.List.{Memᴰ·append-left, Memᴰ·append-right}
 use mathlib.Core.Logic.{_⊎_, inl, inr, ⊎-elim, by-cases}
-use Prim.Native.Nat.{ℕ, _*_, _%_, _≤_, _<_}
-use native.Mathlib.Nat.{not-suc-le-zero, div-add-mod', mul-mod-left}
-use native.Mathlib.Decide.{decLe, ℕ-discrete}
+use Prim.Native.Nat.{ℕ, zero, suc, _+_, _*_, _%_, _≤_, _<_}
+use native.Mathlib.Nat.{not-suc-le-zero, pos-of-ne-zero, div-add-mod', mul-mod-left}
+use native.Mathlib.Decide.{decLt, ℕ-discrete}
 use native.Mathlib.Omega.{arith}
-use lib.ListN.{length}
-use Rattle.terms.specs.Tests.{pick, decide, true-tests, false-tests, tests-le, tests-lt, tests-and}
+use lib.Dec.{lit<}
+use lib.ListN.{length, getD}
+use Rattle.terms.specs.Tests.{pick, stable, true-tests, false-tests, tests-le, tests-lt, tests-and}
+use Rattle.terms.specs.Monomials.{Monomial, _∈_, rowAt, AtMost, degree}
 use Rattle.terms.specs.Rows.{rows}
-use Rattle.terms.proofs.RowsLaws.{length-rows}
-use Rattle.terms.specs.Refusals.{Check, refusal, Refuses, Accepts, NoMultiple, tableChecks}
+use Rattle.terms.proofs.MonomialLaws.{beyond, degree-most}
+use Rattle.terms.proofs.RowsLaws.{length-rows, row-size, row-within, entry-at, member-at, member-index}
+use Rattle.terms.specs.Refusals.{Check, refusal, Refuses, Accepts, NoMultiple, check, tableChecks}
+use Rattle.terms.specs.Refusals.{tests-notOneToSix, tests-noMultiple, tests-tooManyRows, tests-entryAbove50}
 
 -- the first check refuses, or it passes and the others decide
 first-check : (c : Check) (checks : List Check) → (c .Condition × (refusal (c ∷ checks) ≡ c .number)) ⊎ ((c .Condition → ⊥) × (refusal (c ∷ checks) ≡ refusal checks))
@@ -33,11 +46,35 @@ refusal-holds c checks h = ⊎-elim (λ p. p .1) (λ p. absurd (p .0 h)) (first-
 pub refusal-passes : (c : Check) (checks : List Check) → (c .Condition → ⊥) → refusal (c ∷ checks) ≡ refusal checks
 refusal-passes c checks f = ⊎-elim (λ p. absurd (f (p .0))) (λ p. p .1) (first-check c checks)
 
+-- where no check is left nothing is refused
+pub refusal-none : refusal [] ≡ 0
+unfolding refusal
+refusal-none = refl
+
+-- ---- what passes a list, and its parts
+
 pub accepts-nil : Accepts []
 accepts-nil c m = absurd (List·Memᴰ·not-nil m)
 
 pub accepts-cons : (c : Check) (checks : List Check) → (c .Condition → ⊥) → Accepts checks → Accepts (c ∷ checks)
 accepts-cons c checks f a d m h = ⊎-elim (λ e. f (subst (λ (x : Check). x .Condition) e h)) (λ i. a d i h) (List·Memᴰ·cases-cons m)
+
+pub accepts-head : (c : Check) (checks : List Check) → Accepts (c ∷ checks) → c .Condition → ⊥
+accepts-head c checks a = a c (List·Memᴰ·head refl)
+
+pub accepts-tail : (c : Check) (checks : List Check) → Accepts (c ∷ checks) → Accepts checks
+accepts-tail c checks a d m = a d (List·Memᴰ·tail m)
+
+pub accepts-left : (checks more : List Check) → Accepts (checks ++ more) → Accepts checks
+accepts-left checks more a c m = a c (Memᴰ·append-left more m)
+
+pub accepts-right : (checks more : List Check) → Accepts (checks ++ more) → Accepts more
+accepts-right checks more a c m = a c (Memᴰ·append-right checks m)
+
+pub accepts-append : (checks more : List Check) → Accepts checks → Accepts more → Accepts (checks ++ more)
+accepts-append [] more a b = b
+accepts-append (c ∷ checks) more a b =
+    accepts-cons c (checks ++ more) (accepts-head c checks a) (accepts-append checks more (accepts-tail c checks a) b)
 
 -- ---- exactly when none holds
 
@@ -52,7 +89,7 @@ pub accepts-refusal : (checks : List Check) → Accepts checks → refusal check
 unfolding refusal
 accepts-refusal [] a = refl
 accepts-refusal (c ∷ checks) a =
-    refusal-passes c checks (a c (List·Memᴰ·head refl)) ∙ accepts-refusal checks (λ d m. a d (List·Memᴰ·tail m))
+    refusal-passes c checks (accepts-head c checks a) ∙ accepts-refusal checks (accepts-tail c checks a)
 
 -- ---- exactly the first that holds
 
@@ -79,7 +116,7 @@ refusal-refuses (c ∷ checks) p = ⊎-elim
 pub refusal-append : (earlier checks : List Check) → Accepts earlier → refusal (earlier ++ checks) ≡ refusal checks
 refusal-append [] checks a = refl
 refusal-append (c ∷ earlier) checks a =
-    refusal-passes c (earlier ++ checks) (a c (List·Memᴰ·head refl)) ∙ refusal-append earlier checks (λ d m. a d (List·Memᴰ·tail m))
+    refusal-passes c (earlier ++ checks) (accepts-head c earlier a) ∙ refusal-append earlier checks (accepts-tail c earlier a)
 
 pub refuses-refusal : (checks : List Check) (m : ℕ) → Refuses checks m → refusal checks ≡ m
 refuses-refusal checks m r =
@@ -93,6 +130,20 @@ refusal-first (c ∷ earlier) checks p = ⊎-elim
     (λ h. refusal-holds c (earlier ++ checks) (h .0) ∙ sym (h .1))
     (λ h. refusal-passes c (earlier ++ checks) (h .0) ∙ refusal-first earlier checks (omega (arith, h .1)) ∙ sym (h .1))
     (first-check c earlier)
+
+-- what the first part refuses is refused; where it passes, the second part decides
+pub refuses-first : (checks more : List Check) (m : ℕ) → m ≡ refusal checks → (m ≡ 0 → ⊥) → m ≡ refusal (checks ++ more)
+refuses-first checks more m e f = e ∙ sym (refusal-first checks more (rw e at (pos-of-ne-zero f)))
+
+pub passes-first : (checks more : List Check) (m : ℕ) → refusal checks ≡ 0 → m ≡ refusal more → m ≡ refusal (checks ++ more)
+passes-first checks more m e h = h ∙ sym (refusal-append checks more (accepted checks e))
+
+-- where nothing is refused neither part refuses
+pub first-passes : (checks more : List Check) → refusal (checks ++ more) ≡ 0 → refusal checks ≡ 0
+first-passes checks more e = accepts-refusal checks (accepts-left checks more (accepted (checks ++ more) e))
+
+pub rest-passes : (checks more : List Check) → refusal (checks ++ more) ≡ 0 → refusal more ≡ 0
+rest-passes checks more e = accepts-refusal more (accepts-right checks more (accepted (checks ++ more) e))
 
 -- ---- a table that passed the checks 1 to 4
 
@@ -110,11 +161,46 @@ multiple n bytes f = by-cases (ℕ-discrete (length bytes % n) 0)
 
 pub table-accepted : (n : ℕ) (bytes : List ℕ) → Accepts (tableChecks n bytes) → TableAccepted n bytes
 table-accepted n bytes a =
-    let one = decide (tests-and (tests-lt 0 n) (λ p. tests-le n 6)) in
+    let one = stable (tests-and (tests-lt 0 n) (λ p. tests-le n 6)) (accepts-head _ _ a) in
+    let from2 = accepts-tail _ _ a in
+    let from3 = accepts-tail _ _ from2 in
+    let from4 = accepts-tail _ _ from3 in
     record {
-      some = by-cases one (λ h. h .0) (λ g. absurd (a _ (List·Memᴰ·head refl) g));
-      few = by-cases one (λ h. h .1) (λ g. absurd (a _ (List·Memᴰ·head refl) g));
-      whole = multiple n bytes (a _ (List·Memᴰ·tail (List·Memᴰ·head refl)));
-      limited = by-cases (decLe (length (rows n bytes)) 4096) (λ h. h) (λ g. absurd (a _ (List·Memᴰ·tail (List·Memᴰ·tail (List·Memᴰ·head refl))) (omega arith)));
-      small = λ e m. by-cases (decLe e 50) (λ h. h) (λ g. absurd (a _ (List·Memᴰ·tail (List·Memᴰ·tail (List·Memᴰ·tail (List·Memᴰ·head refl)))) (e, m, omega arith)));
+      some = one .0;
+      few = one .1;
+      whole = multiple n bytes (accepts-head _ _ from2);
+      limited = stable (tests-le (length (rows n bytes)) 4096) (λ g. accepts-head _ _ from3 (omega (arith, g)));
+      small = λ e m. stable (tests-le e 50) (λ g. accepts-head _ _ from4 (e, m, omega (arith, g)));
     }
+
+pub accepts-table : (n : ℕ) (bytes : List ℕ) → TableAccepted n bytes → Accepts (tableChecks n bytes)
+accepts-table n bytes t =
+    accepts-cons (check 1 (lit< tt) (tests-notOneToSix n)) _ (λ h. h (t .some, t .few))
+    (accepts-cons (check 2 (lit< tt) (tests-noMultiple n bytes)) _ (λ h. h (length (rows n bytes)) (t .whole))
+    (accepts-cons (check 3 (lit< tt) (tests-tooManyRows n bytes)) _ (λ h. omega (arith, h, t .limited))
+    (accepts-cons (check 4 (lit< tt) (tests-entryAbove50 bytes)) _ (λ h. omega (arith, h .2, t .small (h .0) (h .1))) accepts-nil)))
+
+-- from the refusal that was computed
+pub table-passed : (n : ℕ) (bytes : List ℕ) (m : ℕ) → m ≡ refusal (tableChecks n bytes) → m ≡ 0 → TableAccepted n bytes
+table-passed n bytes m e z = table-accepted n bytes (accepted (tableChecks n bytes) (sym e ∙ z))
+
+-- where other checks follow
+pub table-listed : (n : ℕ) (bytes : List ℕ) (more : List Check) → refusal (tableChecks n bytes ++ more) ≡ 0 → TableAccepted n bytes
+table-listed n bytes more e = table-passed n bytes 0 (sym (first-passes (tableChecks n bytes) more e)) refl
+
+module _ (n : ℕ) (bytes : List ℕ) (a : TableAccepted n bytes) where
+  module _ (r : ℕ) (l : r < length (rows n bytes)) where
+    -- an exponent of one of the n variables is a byte of the table, and any other is 0
+    pub entries-small : AtMost 50 (rowAt (rows n bytes) r)
+    entries-small zero = omega arith
+    entries-small (suc i) = by-cases (decLt i n)
+        (λ h.
+        let m = member-at bytes 0 (r * n + i) (omega (arith, row-within n bytes r l)) in
+        omega (arith, entry-at n bytes r i l h, a .small (getD bytes (r * n + i) 0) m))
+        (λ g. omega (arith, beyond (rowAt (rows n bytes) r) (suc i) (omega (arith, row-size n bytes r l))))
+
+    pub degree-small : degree (rowAt (rows n bytes) r) ≤ 300
+    degree-small = omega (arith, degree-most 50 (rowAt (rows n bytes) r) entries-small, row-size n bytes r l, a .few)
+
+  pub rows-small : (u : Monomial) → u ∈ rows n bytes → AtMost 50 u
+  rows-small u m = let r = member-index (rows n bytes) [] u m in subst (AtMost 50) (r .2) (entries-small (r .0) (r .1))

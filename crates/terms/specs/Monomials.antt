@@ -8,12 +8,13 @@
 --   OfSize n G       each row of G has n exponents
 --   SameBefore i u v u and v are equal in variables 1 to i − 1
 --   times u i k      u times variable i to the power k
+--   AtMost b u       no exponent of u is above b
 --   degree u         the total degree of u
 --
 -- Since each exponent past the last variable reads as 0, a rule over 'each variable' needs no bound.
 use mathlib.Core.Path.{_≡_}
 use mathlib.Core.List.{List, [], _∷_, List·Memᴰ}
-use Prim.Native.Nat.{ℕ, zero, suc, _+_, _<_}
+use Prim.Native.Nat.{ℕ, zero, suc, _+_, _≤_, _<_}
 use lib.ListN.{length, getD, set}
 
 abbrev pub Monomial : Type 0
@@ -39,6 +40,9 @@ OfSize n G = (u : Monomial) → u ∈ G → length u ≡ n
 
 abbrev pub SameBefore : ℕ → Monomial → Monomial → Type 0
 SameBefore i u v = (j : ℕ) → j < i → u ! j ≡ v ! j
+
+abbrev pub AtMost : ℕ → Monomial → Type 0
+AtMost b u = (i : ℕ) → u ! i ≤ b
 
 abbrev pub times : Monomial → ℕ → ℕ → Monomial
 times u zero k = u

@@ -9,10 +9,10 @@
 --
 -- A rule is a type in the paper's words. Its test computes, and one law `tests-..` says that both agree: readers read
 -- the rule, contracts cite the test, and cases can be taken.
-use mathlib.Core.Path.{_≡_, refl, sym, subst}
+use mathlib.Core.Path.{_≡_, refl, sym, ap, subst}
 use mathlib.Core.Bool.{Bool, true, false, not, _&&_, _||_}
 use mathlib.Core.List.{List, [], _∷_, List·Memᴰ, List·Memᴰ·head, List·Memᴰ·tail, List·Memᴰ·cases-cons, List·Memᴰ·not-nil}
-use mathlib.Core.Logic.{_⊎_, inl, inr, ⊎-elim}
+use mathlib.Core.Logic.{_⊎_, inl, inr, ⊎-elim, by-cases}
 use Prim.Native.Nat.{ℕ, zero, suc, _≤_, _<_}
 use native.Mathlib.Nat.{eq-or-lt-of-le, le-of-suc-le-suc}
 use native.Mathlib.Omega.{arith}
@@ -59,6 +59,10 @@ module _ {b : Bool} {P : Type 0} (t : Tests b P) where
       go true s c = yes (s tt)
       go false s c = no c
 
+  -- so what is not refuted holds
+  pub stable : ((P → ⊥) → ⊥) → P
+  stable f = by-cases decide (λ p. p) (λ g. absurd (f g))
+
   pub tests-true : P → true ≡ b
   tests-true p = go b (t .complete p)
     where
@@ -72,6 +76,13 @@ module _ {b : Bool} {P : Type 0} (t : Tests b P) where
       go : (c : Bool) → (T c → P) → false ≡ c
       go true h = absurd (f (h tt))
       go false h = refl
+
+  -- what it picks
+  pub pick-true : {A : Type 0} (x y : A) → P → x ≡ pick b x y
+  pick-true x y p = ap (λ (c : Bool). pick c x y) (tests-true p)
+
+  pub pick-false : {A : Type 0} (x y : A) → (P → ⊥) → y ≡ pick b x y
+  pick-false x y f = ap (λ (c : Bool). pick c x y) (tests-false f)
 
   pub true-tests : b ≡ true → P
   true-tests e = t .sound (subst T (sym e) tt)

@@ -6,8 +6,8 @@ use Rattle.terms.specs.Order.{Ascending}
 use Rattle.terms.specs.Rows.{rows}
 use Rattle.terms.specs.Tests.{true-tests, false-tests}
 use Rattle.terms.proofs.OrderLaws.{tests-ascending}
+use Rattle.terms.proofs.RefusalLaws.{entries-small}
 use Rattle.division.proofs.Facade.{tests-complete}
-use Rattle.counting.proofs.PassLaws.{entry-small}
 use Rattle.counting.proofs.OperationLaws.{order-6, order-7, order-0}
 use Rattle.counting.proofs.checks.order_refusal.Statement.{statement}
 use Rattle.counting.proofs.checks.order_refusal.Tie as tie
@@ -29,7 +29,7 @@ table-complete-requires : tie.Need-table-complete-requires
 table-complete-requires c κs =
     let start = c .before .before .before in
     let t = start .pre in
-    (record { some = t .some; few = t .few; limited = t .limited; ascends = ascending c }, entry-small (start .args .n) (start .args .table .now) t)
+    (record { some = t .some; few = t .few; limited = t .limited; ascends = ascending c }, entries-small (start .args .n) (start .args .table .now) t)
 
 returns-2 : tie.Need-returns-2
 returns-2 c =

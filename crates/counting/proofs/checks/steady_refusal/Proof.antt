@@ -2,9 +2,7 @@
 use mathlib.Core.Path.{sym, _∙_}
 use borrow.Author.Needs.{needs}
 use Rattle.terms.specs.Refusals.{tableChecks}
-use Rattle.terms.proofs.RefusalLaws.{accepted, table-accepted}
-use Rattle.counting.specs.Operations.{orderChecks}
-use Rattle.counting.proofs.OperationLaws.{table-first, table-passed}
+use Rattle.terms.proofs.RefusalLaws.{refuses-first, passes-first, table-passed}
 use Rattle.counting.proofs.checks.steady_refusal.Statement.{statement}
 use Rattle.counting.proofs.checks.steady_refusal.Tie as tie
 
@@ -14,20 +12,17 @@ table-refusal-requires c κs = search needs
 returns : tie.Need-returns
 returns c =
     let a = c .before .before .before .args in
-    let checked = c .before .table-refusal in
-    table-first (a .n) (a .table .now) (checked .result) (checked .ensures) (orderChecks (a .n) (a .table .now)) (c .if1 .taken)
+    refuses-first (tableChecks (a .n) (a .table .now)) _ _ (c .before .table-refusal .ensures) (c .if1 .taken)
 
 order-refusal-requires : tie.Need-order-refusal-requires
 order-refusal-requires c κs =
     let a = c .before .before .before .args in
-    table-accepted (a .n) (a .table .now) (accepted (tableChecks (a .n) (a .table .now)) (sym (c .before .table-refusal .ensures) ∙ c .if1 .left))
+    table-passed (a .n) (a .table .now) _ (c .before .table-refusal .ensures) (c .if1 .left)
 
 returns-2 : tie.Need-returns-2
 returns-2 c =
     let a = c .before .before .before .before .args in
-    let checked = c .before .before .table-refusal in
-    c .order-refusal .ensures
-    ∙ sym (table-passed (a .n) (a .table .now) (checked .result) (checked .ensures) (orderChecks (a .n) (a .table .now)) (c .before .if1 .left))
+    passes-first (tableChecks (a .n) (a .table .now)) _ _ (sym (c .before .before .table-refusal .ensures) ∙ c .before .if1 .left) (c .order-refusal .ensures)
 
 pub steady-refusal-spec : {M : Type 1} → statement M
 steady-refusal-spec = tie.close (tie.spec table-refusal-requires returns order-refusal-requires returns-2)

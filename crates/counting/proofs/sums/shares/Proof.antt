@@ -9,9 +9,10 @@ use lib.ListN.{length, drop, getD}
 use Rattle.terms.specs.Monomials.{rowAt, degree}
 use Rattle.terms.specs.Rows.{rows}
 use Rattle.terms.proofs.RowsLaws.{length-rows}
+use Rattle.terms.proofs.RefusalLaws.{degree-small}
 use Rattle.counting.specs.Counts.{share}
 use Rattle.counting.specs.Sums.{sharesOf, Known}
-use Rattle.counting.proofs.PassLaws.{degree-small, known-none, share-small, marks-few, shares-next, shares-done}
+use Rattle.counting.proofs.PassLaws.{known-none, share-small, marks-few, shares-next, shares-done}
 use Rattle.counting.proofs.sums.shares.Statement.{statement}
 use Rattle.counting.proofs.sums.shares.Tie as tie
 

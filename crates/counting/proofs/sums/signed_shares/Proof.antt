@@ -11,9 +11,10 @@ use lib.IntN.{pos, _+ℤ_, _-ℤ_, +ℤ-idl, +ℤ-idr}
 use Rattle.terms.specs.Monomials.{rowAt, degree}
 use Rattle.terms.specs.Rows.{rows}
 use Rattle.terms.proofs.RowsLaws.{length-rows}
+use Rattle.terms.proofs.RefusalLaws.{degree-small}
 use Rattle.counting.specs.Counts.{signedShare}
 use Rattle.counting.specs.Sums.{signedSharesOf, Known}
-use Rattle.counting.proofs.PassLaws.{degree-small, known-none, marks-few, signed-next, signed-done, splits-add}
+use Rattle.counting.proofs.PassLaws.{known-none, marks-few, signed-next, signed-done, splits-add}
 use Rattle.counting.proofs.sums.signed_shares.Statement.{statement}
 use Rattle.counting.proofs.sums.signed_shares.Tie as tie
 

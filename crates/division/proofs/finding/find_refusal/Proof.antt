@@ -1,5 +1,4 @@
 -- Each return is the law of the check that refuses there, the earlier ones having passed.
-use native.Mathlib.Omega.{arith}
 use borrow.Author.Tests.{not-true, not-false}
 use mathlib.Core.Path.{sym, _∙_}
 use denote.Ref.{now}
@@ -8,8 +7,8 @@ use Rattle.terms.specs.Rows.{rows}
 use Rattle.terms.specs.Tests.{true-tests, false-tests}
 use Rattle.terms.specs.Refusals.{tableChecks}
 use Rattle.terms.proofs.OrderLaws.{tests-ascending}
-use Rattle.terms.proofs.RefusalLaws.{accepted, table-accepted}
-use Rattle.division.proofs.FindLaws.{refuses-table, refuses-length, refuses-order, refuses-none}
+use Rattle.terms.proofs.RefusalLaws.{refuses-first, table-passed}
+use Rattle.division.proofs.FindLaws.{refuses-length, refuses-order, refuses-none}
 use Rattle.division.proofs.finding.find_refusal.Statement.{statement}
 use Rattle.division.proofs.finding.find_refusal.Tie as tie
 
@@ -18,10 +17,8 @@ table-refusal-requires c κs = search needs
 
 returns : tie.Need-returns
 returns c =
-    let s = c .before .before .before .before in
-    let a = s .args in
-    let e = c .before .table-refusal .ensures in
-    e ∙ refuses-table (a .n) (a .table .now) (a .query .now) (omega (arith, e, c .if1 .taken))
+    let a = c .before .before .before .before .args in
+    refuses-first (tableChecks (a .n) (a .table .now)) _ _ (c .before .table-refusal .ensures) (c .if1 .taken)
 
 returns-2 : tie.Need-returns-2
 returns-2 c =
@@ -33,8 +30,7 @@ ascends-requires : tie.Need-ascends-requires
 ascends-requires c κs =
     let s = c .before .before .before .before .before in
     let a = s .args in
-    table-accepted (a .n) (a .table .now) (accepted (tableChecks (a .n) (a .table .now))
-    (sym (c .before .before .table-refusal .ensures) ∙ c .before .if1 .left)) .some
+    table-passed (a .n) (a .table .now) _ (c .before .before .table-refusal .ensures) (c .before .if1 .left) .some
 
 returns-3 : tie.Need-returns-3
 returns-3 c =

@@ -1,9 +1,10 @@
 -- Each return gives the first check that refuses.
-use native.Mathlib.Omega.{arith}
 use mathlib.Core.Path.{sym, _∙_}
 use denote.Ref.{now}
 use borrow.Author.Needs.{needs}
-use Rattle.division.proofs.InsideLaws.{refuses-table, refuses-length, refuses-none}
+use Rattle.terms.specs.Refusals.{tableChecks}
+use Rattle.terms.proofs.RefusalLaws.{refuses-first}
+use Rattle.division.proofs.InsideLaws.{refuses-length, refuses-none}
 use Rattle.division.proofs.inside.inside_refusal.Statement.{statement}
 use Rattle.division.proofs.inside.inside_refusal.Tie as tie
 
@@ -13,8 +14,7 @@ table-refusal-requires c κs = search needs
 returns : tie.Need-returns
 returns c =
     let a = c .before .before .before .before .args in
-    let e = c .before .table-refusal .ensures in
-    e ∙ refuses-table (a .n) (a .table .now) (a .query .now) (omega (arith, e, c .if1 .taken))
+    refuses-first (tableChecks (a .n) (a .table .now)) _ _ (c .before .table-refusal .ensures) (c .if1 .taken)
 
 returns-2 : tie.Need-returns-2
 returns-2 c =

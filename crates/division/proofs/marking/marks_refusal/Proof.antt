@@ -4,9 +4,9 @@ use mathlib.Core.Path.{sym, _∙_}
 use denote.Ref.{now}
 use borrow.Author.Needs.{needs}
 use Rattle.terms.specs.Refusals.{tableChecks}
-use Rattle.terms.proofs.RefusalLaws.{accepted, table-accepted}
+use Rattle.terms.proofs.RefusalLaws.{refuses-first, table-passed}
 use Rattle.terms.proofs.RowsLaws.{length-rows}
-use Rattle.division.proofs.MarkingLaws.{refuses-table, refuses-buffer, refuses-none}
+use Rattle.division.proofs.MarkingLaws.{refuses-buffer, refuses-none}
 use Rattle.division.proofs.marking.marks_refusal.Statement.{statement}
 use Rattle.division.proofs.marking.marks_refusal.Tie as tie
 
@@ -16,13 +16,12 @@ table-refusal-requires c κs = search needs
 returns : tie.Need-returns
 returns c =
     let a = c .before .before .before .args in
-    let e = c .before .table-refusal .ensures in
-    e ∙ refuses-table (a .n) (a .table .now) (a .size) (omega (arith, e, c .if1 .taken))
+    refuses-first (tableChecks (a .n) (a .table .now)) _ _ (c .before .table-refusal .ensures) (c .if1 .taken)
 
 div-if2 : tie.Need-div-if2
 div-if2 c =
     let a = c .before .before .before .args in
-    table-accepted (a .n) (a .table .now) (accepted (tableChecks (a .n) (a .table .now)) (sym (c .before .table-refusal .ensures) ∙ c .if1 .left)) .some
+    table-passed (a .n) (a .table .now) _ (c .before .table-refusal .ensures) (c .if1 .left) .some
 
 returns-2 : tie.Need-returns-2
 returns-2 c =

@@ -1,0 +1,51 @@
+-- The tables of the paper's starred examples, by the letters of the paper. Each example is shown in the crate of its rule.
+--
+--   A                no rows, n = 2; it needs no name
+--   tableB           "Row 0 0"
+--   tableC           "Row 3, n=1"
+--   tableD, completedD   the rows of the listing, 2 1 and 0 2, and their completed table; as bytes, bytesD; as a bundle, bundleD
+--   tableE, completedE   "Rows 1 0 and 1 0"
+--   tableF, completedF   the rows of document 002, example 5.2, which F and G speak of, and the 11 rows that H completes them to
+--   tableI, completedI   the rows of document 004, example 5.10, columns reversed
+--   J                D's rows with 6 and with 5 bytes of room
+use mathlib.Core.List.{List, [], _∷_}
+use Prim.Native.Nat.{ℕ}
+use Rattle.terms.specs.Monomials.{Table}
+
+abbrev pub tableB : Table
+tableB = (0 ∷ 0 ∷ []) ∷ []
+
+abbrev pub tableC : Table
+tableC = (3 ∷ []) ∷ []
+
+abbrev pub tableD : Table
+tableD = (2 ∷ 1 ∷ []) ∷ (0 ∷ 2 ∷ []) ∷ []
+
+abbrev pub bytesD : List ℕ
+bytesD = 2 ∷ 1 ∷ 0 ∷ 2 ∷ []
+
+abbrev pub bundleD : List ℕ
+bundleD = 2 ∷ 1 ∷ 2 ∷ 0 ∷ 6 ∷ 0 ∷ bytesD
+
+abbrev pub completedD : Table
+completedD = (0 ∷ 2 ∷ []) ∷ (1 ∷ 2 ∷ []) ∷ (2 ∷ 1 ∷ []) ∷ []
+
+abbrev pub tableE : Table
+tableE = (1 ∷ 0 ∷ []) ∷ (1 ∷ 0 ∷ []) ∷ []
+
+abbrev pub completedE : Table
+completedE = (1 ∷ 0 ∷ []) ∷ []
+
+abbrev pub tableF : Table
+tableF = (0 ∷ 0 ∷ 2 ∷ []) ∷ (0 ∷ 1 ∷ 1 ∷ []) ∷ (0 ∷ 2 ∷ 0 ∷ []) ∷ (1 ∷ 0 ∷ 1 ∷ []) ∷ (3 ∷ 1 ∷ 0 ∷ []) ∷ []
+
+abbrev pub completedF : Table
+completedF =
+    (0 ∷ 0 ∷ 2 ∷ []) ∷ (0 ∷ 1 ∷ 1 ∷ []) ∷ (0 ∷ 2 ∷ 0 ∷ []) ∷ (1 ∷ 0 ∷ 1 ∷ []) ∷ (1 ∷ 1 ∷ 1 ∷ []) ∷ (1 ∷ 2 ∷ 0 ∷ [])
+    ∷ (2 ∷ 0 ∷ 1 ∷ []) ∷ (2 ∷ 1 ∷ 1 ∷ []) ∷ (2 ∷ 2 ∷ 0 ∷ []) ∷ (3 ∷ 0 ∷ 1 ∷ []) ∷ (3 ∷ 1 ∷ 0 ∷ []) ∷ []
+
+abbrev pub tableI : Table
+tableI = (0 ∷ 1 ∷ 1 ∷ []) ∷ (1 ∷ 1 ∷ 0 ∷ []) ∷ (0 ∷ 2 ∷ 0 ∷ []) ∷ (3 ∷ 0 ∷ 0 ∷ []) ∷ []
+
+abbrev pub completedI : Table
+completedI = (0 ∷ 1 ∷ 1 ∷ []) ∷ (0 ∷ 2 ∷ 0 ∷ []) ∷ (1 ∷ 1 ∷ 0 ∷ []) ∷ (2 ∷ 1 ∷ 0 ∷ []) ∷ (3 ∷ 0 ∷ 0 ∷ []) ∷ []

@@ -77,13 +77,15 @@ copied-none {d} {o} {from} {to} = record { passed = omega arith; copied = paste-
 pub copied-all : {d o : List ℕ} {from to count i : ℕ} {b : List ℕ} → Copied d o from to count i b → count ≤ i → b ≡ paste d to (drop from o) count
 copied-all {count = count} {i = i} c h = let e : i ≡ count = omega (arith, c .passed) in c .copied ∙ rw e
 
-pub copied-length : {d o : List ℕ} {from to count i : ℕ} {b : List ℕ} → Copied d o from to count i b → from + count ≤ length o → to + count ≤ length d → length b ≡ length d
+pub copied-length : {d o : List ℕ} {from to count i : ℕ} {b : List ℕ} → Copied d o from to count i b → from + count ≤ length o → to + count ≤ length d →
+    length b ≡ length d
 copied-length {d} {o} {from} {to} {i = i} c f t =
     let s : i ≤ length (drop from o) = rw length-drop (omega (arith, c .passed)) in
     ap length (c .copied) ∙ length-paste d to (drop from o) i (omega (arith, c .passed)) s
 
 -- one byte more, of another array
-pub copied-more : {d o : List ℕ} {from to count i : ℕ} {b : List ℕ} → Copied d o from to count i b → from + count ≤ length o → to + count ≤ length d → i < count →
+pub copied-more : {d o : List ℕ} {from to count i : ℕ} {b : List ℕ} → Copied d o from to count i b → from + count ≤ length o → to + count ≤ length d →
+    i < count →
     Copied d o from to count (i + 1) (set b (to + i) (getD o (from + i) 0))
 copied-more {d} {o} {from} {to} {i = i} c f t l =
     let s : i < length (drop from o) = rw length-drop (omega arith) in
@@ -118,7 +120,8 @@ pairs-stop b i j m (suc x) p h l =
     let g : getD b (j + x) 0 < getD b (i + x) 0 = rw e at l in
     rw (byte-at b i m x h, byte-at b j m x h, lt-leb _ _ g)
 
-pub pairs-on : (b : List ℕ) (i j m left : ℕ) → 0 < left → left ≤ m → getD b (i + (left - 1)) 0 ≤ getD b (j + (left - 1)) 0 → pairs b i j m left ≡ pairs b i j m (left - 1)
+pub pairs-on : (b : List ℕ) (i j m left : ℕ) → 0 < left → left ≤ m → getD b (i + (left - 1)) 0 ≤ getD b (j + (left - 1)) 0 →
+    pairs b i j m left ≡ pairs b i j m (left - 1)
 pairs-on b i j m zero p h l = absurd (not-suc-le-zero p)
 pairs-on b i j m (suc x) p h l =
     let e : suc x - 1 ≡ x = omega arith in
@@ -136,11 +139,13 @@ part-cons n (suc k) from b h =
 
 -- ---- the tests over the rows that are left
 
-pub covered-stop : (m left from : ℕ) (b : List ℕ) (q : Monomial) → 0 < left → dividesTest (take m (drop from b)) q ≡ true → insideTest (part m left from b) q ≡ true
+pub covered-stop : (m left from : ℕ) (b : List ℕ) (q : Monomial) → 0 < left → dividesTest (take m (drop from b)) q ≡ true →
+    insideTest (part m left from b) q ≡ true
 unfolding insideTest
 covered-stop m left from b q p e = rw (part-cons m left from b p, e)
 
-pub covered-on : (m left from : ℕ) (b : List ℕ) (q : Monomial) → 0 < left → dividesTest (take m (drop from b)) q ≡ false → insideTest (part m left from b) q ≡ insideTest (part m (left - 1) (from + m) b) q
+pub covered-on : (m left from : ℕ) (b : List ℕ) (q : Monomial) → 0 < left → dividesTest (take m (drop from b)) q ≡ false →
+    insideTest (part m left from b) q ≡ insideTest (part m (left - 1) (from + m) b) q
 unfolding insideTest
 covered-on m left from b q p e = rw (part-cons m left from b p, e)
 
@@ -152,7 +157,8 @@ pub grows-stop : (G : Table) (m left from : ℕ) (b : List ℕ) → 0 < left →
 unfolding fresh
 grows-stop G m left from b p e = rw (part-cons m left from b p, e)
 
-pub grows-on : (G : Table) (m left from : ℕ) (b : List ℕ) → 0 < left → insideTest G (take m (drop from b)) ≡ true → fresh G (part m left from b) ≡ fresh G (part m (left - 1) (from + m) b)
+pub grows-on : (G : Table) (m left from : ℕ) (b : List ℕ) → 0 < left → insideTest G (take m (drop from b)) ≡ true →
+    fresh G (part m left from b) ≡ fresh G (part m (left - 1) (from + m) b)
 unfolding fresh
 grows-on G m left from b p e = rw (part-cons m left from b p, e)
 
@@ -185,7 +191,8 @@ heads-below : (u : Monomial) (G : Table) → u ! 1 < heads G → heads (u ∷ G)
 unfolding heads
 heads-below u G l = rw (lt-ltb _ _ l)
 
-pub heads-more : (m count left : ℕ) (b : List ℕ) → 0 < left → left ≤ count → 0 < m → heads (drop left (firstRows m count b)) ≤ getD b ((left - 1) * m) 0 → getD b ((left - 1) * m) 0 + 1 ≡ heads (drop (left - 1) (firstRows m count b))
+pub heads-more : (m count left : ℕ) (b : List ℕ) → 0 < left → left ≤ count → 0 < m → heads (drop left (firstRows m count b)) ≤ getD b ((left - 1) * m) 0 →
+    getD b ((left - 1) * m) 0 + 1 ≡ heads (drop (left - 1) (firstRows m count b))
 heads-more m count zero b p h q l = absurd (not-suc-le-zero p)
 heads-more m count (suc x) b p h q l =
     let e : suc x - 1 ≡ x = omega arith in
@@ -193,7 +200,8 @@ heads-more m count (suc x) b p h q l =
     let r : rowAt (firstRows m count b) x ! 1 ≡ getD b (x * m) 0 = head-byte m count x b h q in
     rw (e, heads-last m count x b h) (sym (heads-above (rowAt (firstRows m count b) x) (drop (suc x) (firstRows m count b)) (omega arith) ∙ omega arith))
 
-pub heads-same : (m count left : ℕ) (b : List ℕ) → 0 < left → left ≤ count → 0 < m → getD b ((left - 1) * m) 0 < heads (drop left (firstRows m count b)) → heads (drop left (firstRows m count b)) ≡ heads (drop (left - 1) (firstRows m count b))
+pub heads-same : (m count left : ℕ) (b : List ℕ) → 0 < left → left ≤ count → 0 < m → getD b ((left - 1) * m) 0 < heads (drop left (firstRows m count b)) →
+    heads (drop left (firstRows m count b)) ≡ heads (drop (left - 1) (firstRows m count b))
 heads-same m count zero b p h q l = absurd (not-suc-le-zero p)
 heads-same m count (suc x) b p h q l =
     let e : suc x - 1 ≡ x = omega arith in

@@ -27,10 +27,12 @@ use Rattle.completion.proofs.CodeBytes.{head-byte, rows-fewer}
 
 -- ---- one variable
 
-slices-least : (rows m : ℕ) (work : List ℕ) → rows * 1 ≤ length work → ((i : ℕ) → i < rows → m ≤ getD work i 0) → ((i : ℕ) × (i < rows) × (getD work i 0 ≡ m)) → slices 1 (firstRows 1 rows work) ≡ (m ∷ []) ∷ []
+slices-least : (rows m : ℕ) (work : List ℕ) → rows * 1 ≤ length work → ((i : ℕ) → i < rows → m ≤ getD work i 0) →
+    ((i : ℕ) × (i < rows) × (getD work i 0 ≡ m)) → slices 1 (firstRows 1 rows work) ≡ (m ∷ []) ∷ []
 slices-least rows m work h low found =
     let G : Table = firstRows 1 rows work in
-    let byte : (x : ℕ) → x < rows → rowAt G x ! 1 ≡ getD work x 0 = λ x l. head-byte 1 rows x work l (omega arith) ∙ ap (λ (y : ℕ). getD work y 0) (omega arith) in
+    let byte : (x : ℕ) → x < rows → rowAt G x ! 1 ≡ getD work x 0 =
+    λ x l. head-byte 1 rows x work l (omega arith) ∙ ap (λ (y : ℕ). getD work y 0) (omega arith) in
     slices-one {G = G} {m = m} (firstRows-size 1 rows work h) (record {
       row = rowAt G (found .0);
       member = member-at G [] (found .0) (rw length-firstRows (found .1));
@@ -162,7 +164,8 @@ module _ {n rest rows : ℕ} {work out : List ℕ} {room start : ℕ} (h : Roomy
       }
 
   -- no room for what a head adds: none for the whole
-  pub level-full : {head : List ℕ} {a : ℕ} {now new after : List ℕ} {r : Progress} → Stepped T start (take (start * n) out) n rest rows head room a now r new after →
+  pub level-full : {head : List ℕ} {a : ℕ} {now new after : List ℕ} {r : Progress} →
+      Stepped T start (take (start * n) out) n rest rows head room a now r new after →
       take (rows * suc rest) now ≡ take (rows * suc rest) work → room < r .end → Appended n rest rows head work out room start (r .end) new after
   level-full {a = a} s k g =
       let W : Table = walk (λ H. slices rest H) T (suc a) .written in
@@ -176,7 +179,8 @@ module _ {n rest rows : ℕ} {work out : List ℕ} {room start : ℕ} (h : Roomy
   pub level-done : {head : List ℕ} {a : ℕ} {now after : List ℕ} {w : Progress} → Standing T start (take (start * n) out) n rest rows head room a now after w →
       take (rows * suc rest) now ≡ take (rows * suc rest) work → a ≡ heads T → Appended n rest rows head work out room start (w .end) now after
   level-done {head} {a} s k e =
-      let all : walk (λ H. slices rest H) T a .written ≡ slices (suc rest) T = ap (λ (x : ℕ). walk (λ H. slices rest H) T x .written) e ∙ sym (slices-walk rest T) in
+      let all : walk (λ H. slices rest H) T a .written ≡ slices (suc rest) T =
+      ap (λ (x : ℕ). walk (λ H. slices rest H) T x .written) e ∙ sym (slices-walk rest T) in
       let f = s .end ∙ ap (λ (H : Table). start + length H) all in
       record {
         end = f ∙ sym (fit-within room (start + length (slices (suc rest) T)) (omega (arith, s .within)));

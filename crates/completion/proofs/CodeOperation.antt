@@ -59,7 +59,8 @@ module _ {n : ℕ} {table : List ℕ} {count : ℕ} {out : List ℕ} {room : ℕ
   unfolding rows
   table-rows = ap (λ (x : ℕ). firstRows n x table) (ap (λ (x : ℕ). x / n) (h .whole) ∙ mul-div-left count (h .some))
 
-  pub collected : (head d work work' out' : List ℕ) (r : ℕ) → count * n ≤ length d → length work ≡ length d → work ≡ paste d 0 (drop 0 table) (count * n) → Appended n (n - 1) count head work out room 0 r work' out' → Collected n table room r out'
+  pub collected : (head d work work' out' : List ℕ) (r : ℕ) → count * n ≤ length d → length work ≡ length d → work ≡ paste d 0 (drop 0 table) (count * n) →
+      Appended n (n - 1) count head work out room 0 r work' out' → Collected n table room r out'
   collected head d work work' out' r g l e A =
       let front : take (count * n) work ≡ take (count * n) table =
       ap (λ (b : List ℕ). take (count * n) b) e
@@ -118,13 +119,15 @@ module _ (n : ℕ) (table buffer : List ℕ) where
           most = most;
         }
 
-    pub complete-full : (room end : ℕ) (out : List ℕ) → room ≡ roomFor n (length buffer) → Collected n table room end out → room < end → CompletePromise n table buffer (Refused 8) buffer
+    pub complete-full : (room end : ℕ) (out : List ℕ) → room ≡ roomFor n (length buffer) → Collected n table room end out → room < end →
+        CompletePromise n table buffer (Refused 8) buffer
     complete-full room end out r c h =
         let b : room < length (completedOf n table) = beyond-fit room (length (completedOf n table)) (omega (arith, c .end)) in
         let g : refusal (completeChecks n table (length buffer)) ≡ 8 = no-room n table (length buffer) accepts (omega arith) in
         subst (λ (x : ℕ). CompletePromise n table buffer (Refused x) buffer) g (complete-refuses n table buffer (omega arith))
 
-    pub complete-done : (room end : ℕ) (out after : List ℕ) → room ≡ roomFor n (length buffer) → Collected n table room end out → end ≤ room → after ≡ paste buffer 0 (drop 0 out) (end * n) → CompletePromise n table buffer (Rows end) after
+    pub complete-done : (room end : ℕ) (out after : List ℕ) → room ≡ roomFor n (length buffer) → Collected n table room end out → end ≤ room →
+        after ≡ paste buffer 0 (drop 0 out) (end * n) → CompletePromise n table buffer (Rows end) after
     complete-done room end out after r c h e =
         let H : Table = completedOf n table in
         let w : length H ≤ room = within-fit room (length H) (omega (arith, c .end)) in
@@ -138,13 +141,15 @@ module _ (n : ℕ) (table buffer : List ℕ) where
         zero-plus x = omega arith
 
 -- the table fits where its rows and their tails do
-pub copied-fits : {n : ℕ} {table : List ℕ} {count : ℕ} {out : List ℕ} {room : ℕ} → Collects n table count out room → (size : ℕ) → count * 21 ≤ size → count * n ≤ size
+pub copied-fits : {n : ℕ} {table : List ℕ} {count : ℕ} {out : List ℕ} {room : ℕ} → Collects n table count out room → (size : ℕ) → count * 21 ≤ size →
+    count * n ≤ size
 copied-fits {n} {count = count} h size l =
     let f : count * n ≤ count * 21 = mul-le-mul-left count (omega (arith, h .few)) in
     omega arith
 
 -- the chains of all levels but the last fit
-pub links-fit : {n : ℕ} {table : List ℕ} {count : ℕ} {out : List ℕ} {room : ℕ} → Collects n table count out room → (size : ℕ) → count * 5 ≤ size → count * (n - 1) ≤ size
+pub links-fit : {n : ℕ} {table : List ℕ} {count : ℕ} {out : List ℕ} {room : ℕ} → Collects n table count out room → (size : ℕ) → count * 5 ≤ size →
+    count * (n - 1) ≤ size
 links-fit {n} {count = count} h size l =
     let f : count * (n - 1) ≤ count * 5 = mul-le-mul-left count (omega (arith, h .few)) in
     omega arith

@@ -59,7 +59,8 @@ same-rows n k b d h g e =
     sym (front-rows n k b [] h) ∙ ap (λ (l : List ℕ). firstRows n k (l ++ [])) e ∙ front-rows n k d [] g
 
 -- bytes that stand behind a front X are rows of the table that was written there
-pub read-back : (n k from : ℕ) (b X : List ℕ) (G : Table) → OfSize n G → length G ≡ k → length X ≡ from → take (from + k * n) b ≡ X ++ flat G → part n k from b ≡ G
+pub read-back : (n k from : ℕ) (b X : List ℕ) (G : Table) → OfSize n G → length G ≡ k → length X ≡ from → take (from + k * n) b ≡ X ++ flat G →
+    part n k from b ≡ G
 read-back n k from b X G z l x e =
     let s : b ≡ X ++ (flat G ++ drop (from + k * n) b) = sym (take-append-drop (from + k * n) b) ∙ ap (λ (l : List ℕ). l ++ drop (from + k * n) b) e ∙ append-assoc X (flat G) (drop (from + k * n) b) in
     let d : drop from b ≡ flat G ++ drop (from + k * n) b = ap (λ (l : List ℕ). drop from l) s ∙ drop-at X (flat G ++ drop (from + k * n) b) from x in
@@ -92,7 +93,8 @@ set-append-add [] ys i a = let e : 0 + i ≡ i = omega arith in rw e
 set-append-add (x ∷ xs) ys i a = let e : suc (length xs) + i ≡ suc (length xs + i) = omega arith in rw e (cons-same refl (set-append-add xs ys i a))
 
 module _ (out : List ℕ) (n k first e : ℕ) where
-  pub columned-front : (i : ℕ) → (first + i) * n ≤ length out → length (take (first * n) out ++ flat (map (λ u. set u k e) (part n i (first * n) out))) ≡ (first + i) * n
+  pub columned-front : (i : ℕ) → (first + i) * n ≤ length out →
+      length (take (first * n) out ++ flat (map (λ u. set u k e) (part n i (first * n) out))) ≡ (first + i) * n
   columned-front i h =
       let s : (first + i) * n ≡ first * n + i * n = add-mul first i n in
       let d : i * n ≤ length (drop (first * n) out) = rw length-drop (omega arith) in
@@ -113,7 +115,8 @@ module _ (out : List ℕ) (n k first e : ℕ) where
       let s : (first + 0) * n ≡ first * n = ap (λ (x : ℕ). x * n) (omega arith) in
       rw (s, append-nil) (sym (take-append-drop (first * n) out))
 
-  pub column-more : (b : List ℕ) (i : ℕ) → (first + i) * n + n ≤ length out → k < n → b ≡ columned out n k first e i → set b ((first + i) * n + k) e ≡ columned out n k first e (i + 1)
+  pub column-more : (b : List ℕ) (i : ℕ) → (first + i) * n + n ≤ length out → k < n → b ≡ columned out n k first e i →
+      set b ((first + i) * n + k) e ≡ columned out n k first e (i + 1)
   unfolding flat
   column-more b i h g q =
       let G : Table = part n i (first * n) out in
@@ -138,7 +141,8 @@ module _ (out : List ℕ) (n k first e : ℕ) where
       ∙ ap (λ (l : List ℕ). flat (map (λ u. set u k e) G) ++ l) (append-nil (set r k e)) in
       left ∙ rw (next, bytes) (simp append-assoc)
 
-  pub columned-take : (b : List ℕ) (i count : ℕ) → i ≡ count → (first + count) * n ≤ length out → b ≡ columned out n k first e i → take ((first + count) * n) b ≡ take (first * n) out ++ flat (map (λ u. set u k e) (part n count (first * n) out))
+  pub columned-take : (b : List ℕ) (i count : ℕ) → i ≡ count → (first + count) * n ≤ length out → b ≡ columned out n k first e i →
+      take ((first + count) * n) b ≡ take (first * n) out ++ flat (map (λ u. set u k e) (part n count (first * n) out))
   columned-take b i count p h q =
       let c : b ≡ columned out n k first e count = q ∙ ap (λ (x : ℕ). columned out n k first e x) p in
       ap (λ (l : List ℕ). take ((first + count) * n) l) c
@@ -146,7 +150,8 @@ module _ (out : List ℕ) (n k first e : ℕ) where
 
 -- ---- a block once more
 
-pub again-rows : (n k first count end e : ℕ) (out new after : List ℕ) → (end + count) * n ≤ length out → first + count ≤ end → new ≡ paste out (end * n) (drop (first * n) out) (count * n) →
+pub again-rows : (n k first count end e : ℕ) (out new after : List ℕ) → (end + count) * n ≤ length out → first + count ≤ end →
+    new ≡ paste out (end * n) (drop (first * n) out) (count * n) →
     take ((end + count) * n) after ≡ take (end * n) new ++ flat (map (λ u. set u k e) (part n count (end * n) new)) →
     take ((end + count) * n) after ≡ take (end * n) out ++ flat (map (λ u. set u k e) (part n count (first * n) out))
 again-rows n k first count end e out new after h g p q =
@@ -227,7 +232,8 @@ tail-take r (x ∷ l) = refl
 
 -- ---- a block repeated
 
-pub repeat-more : (n k first count stop b e end : ℕ) (out new d : List ℕ) → b ≤ e → first + count ≤ stop → stop ≤ end → end * n ≤ length out → stop * n ≤ length d →
+pub repeat-more : (n k first count stop b e end : ℕ) (out new d : List ℕ) → b ≤ e → first + count ≤ stop → stop ≤ end → end * n ≤ length out →
+    stop * n ≤ length d →
     take (end * n) out ≡ take (stop * n) d ++ flat (copies k b (e - b) (part n count (first * n) d)) →
     take ((end + count) * n) new ≡ take (end * n) out ++ flat (map (λ u. set u k e) (part n count (first * n) out)) →
     take ((end + count) * n) new ≡ take (stop * n) d ++ flat (copies k b (e + 1 - b) (part n count (first * n) d))
@@ -247,7 +253,8 @@ copies-next k b e count S h l =
     let s : e + 1 - b ≡ suc (e - b) = omega arith in
     rw s (length-append (copies k b (e - b) S) (map (λ u. set u k (b + (e - b))) S) ∙ omega (arith, length-map S (λ u. set u k (b + (e - b)))))
 
-pub repeat-beyond : (k b a e stop count end room : ℕ) (S : Table) → b ≤ e → e < a → length S ≡ count → end ≡ stop + length (copies k b (e - b) S) → room < end + count → room + 1 ≡ fit room (stop + length (copies k b (a - b) S))
+pub repeat-beyond : (k b a e stop count end room : ℕ) (S : Table) → b ≤ e → e < a → length S ≡ count → end ≡ stop + length (copies k b (e - b) S) →
+    room < end + count → room + 1 ≡ fit room (stop + length (copies k b (a - b) S))
 repeat-beyond k b a e stop count end room S h l s p q =
     let m : suc (e - b) * length S ≤ (a - b) * length S = mul-le-mul-right (length S) (omega arith) in
     let t : suc (e - b) * length S ≡ (e - b) * length S + length S = omega arith in

@@ -72,9 +72,11 @@ pub record Settled (n rest all base start stop a room : ℕ) (work out : List �
   pub kept : take base work' ≡ take base work
   pub from : stop ≤ room → r .from ≡ start
   pub last : stop ≤ room → r .last ≡ a
-  pub generators : stop ≤ room → part rest (r .generators) base work' ≡ shorter (map (λ u. drop (n - rest) u) (part n (stop - start) (start * n) out)) (part rest all base work)
+  pub generators : stop ≤ room →
+      part rest (r .generators) base work' ≡ shorter (map (λ u. drop (n - rest) u) (part n (stop - start) (start * n) out)) (part rest all base work)
 
-pub record Stepped (T : Table) (start : ℕ) (P : List ℕ) (n rest rows : ℕ) (head : List ℕ) (room a : ℕ) (work : List ℕ) (r : Progress) (work' out' : List ℕ) : Type 0 where
+pub record Stepped (T : Table) (start : ℕ) (P : List ℕ) (n rest rows : ℕ) (head : List ℕ) (room a : ℕ)
+    (work : List ℕ) (r : Progress) (work' out' : List ℕ) : Type 0 where
   pub kept : take (rows * suc rest) work' ≡ take (rows * suc rest) work
   pub end : r .end ≡ fit room (start + length (walk (λ H. slices rest H) T (suc a) .written))
   pub on : r .end ≤ room → Standing T start P n rest rows head room (suc a) work' out' r

@@ -9,13 +9,13 @@ use Rattle.completion.proofs.settle.Statement.{statement}
 use Rattle.completion.proofs.settle.Tie as tie
 
 returns : tie.Need-returns
-returns c = settle-over (c .if1 .taken)
+returns c = settle-over (omega arith)
 
 sub-count : tie.Need-sub-count
 sub-count c = search needs
 
 returns-2 : tie.Need-returns-2
-returns-2 c = settle-keeps (c .if2 .taken)
+returns-2 c = settle-keeps (omega arith)
 
 -- the rows lie within the room, and they are fewer than the generators
 compact-requires : tie.Need-compact-requires

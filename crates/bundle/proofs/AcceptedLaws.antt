@@ -24,7 +24,8 @@ use Rattle.terms.proofs.RefusalLaws.{accepted, accepts-refusal, accepts-head, a
 use Rattle.terms.proofs.RefusalLaws.{refusal-none, refusal-passes, passes-first, accepts-table}
 use Rattle.bundle.specs.Some.{SomeBelow}
 use Rattle.bundle.specs.Format.{variablesOf, tableCount, headerLength, rowCount, offsetOf, bodyLength, placeOf, bodyOf, tableOf}
-use Rattle.bundle.specs.Checks.{LargeEntry, frameChecks, tableChecksOf, tablesChecks, remainChecks, layoutChecks, entryChecks, bundleChecks, largeEntryTest, tests-largeEntry}
+use Rattle.bundle.specs.Checks.{LargeEntry, largeEntryTest, tests-largeEntry}
+use Rattle.bundle.specs.Checks.{frameChecks, tableChecksOf, tablesChecks, remainChecks, layoutChecks, entryChecks, bundleChecks}
 use Rattle.bundle.proofs.CheckLaws.{Framed, framed-accepts, has-frame, frame-passes, TableLaid, tables-laid, table-passes}
 
 -- ---- the layout
@@ -149,7 +150,8 @@ tables-enough b (suc m) j f =
 laid-enough : (b : List ℕ) → Laid b → refusal (layoutChecks b) ≡ 0
 laid-enough b l =
     let f = l .frame in
-    let frame : 0 ≡ refusal (frameChecks b) = frame-passes b (has-frame b (f .long) (f .short) (f .someTables) (f .fewTables) (f .header)) (f .someVariables) (f .fewVariables) in
+    let is = has-frame b (f .long) (f .short) (f .someTables) (f .fewTables) (f .header) in
+    let frame : 0 ≡ refusal (frameChecks b) = frame-passes b is (f .someVariables) (f .fewVariables) in
     let tables : refusal (tablesChecks b 0 (tableCount b)) ≡ 0 = tables-enough b (tableCount b) 0 (λ i g h. l .tables i (omega arith)) in
     let none : placeOf b (tableCount b) < length b → ⊥ = λ h. omega (arith, l .ends) in
     let remain : 0 ≡ refusal (remainChecks b) = sym (refusal-passes _ _ none ∙ refusal-none) in

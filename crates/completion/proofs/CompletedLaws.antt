@@ -21,9 +21,10 @@ use lib.Seq.{length-take-le, getD-take, getD-drop, getD-append-add, getD-at}
 use Rattle.terms.specs.Tests.{Tests, tests-as, tests-and, tests-not, tests-implies, tests-lt, tests-eq, tests-each, tests-any, keep-in, keep-make}
 use Rattle.terms.specs.Monomials.{Monomial, Table, _!_, _∈_, OfSize, SameBefore, AtMost, times}
 use Rattle.terms.specs.Ideal.{Divides, Inside, SameIdeal}
-use Rattle.terms.proofs.MonomialLaws.{within, positive, most-tail, three, at-or-other, length-times, times-same, times-other}
+use Rattle.terms.proofs.MonomialLaws.{within, positive, most-by, most-tail, three, at-or-other, length-times, times-same, times-other}
 use Rattle.terms.proofs.IdealLaws.{tests-divides, tests-inside, inside-up, same-ideal-sym}
 use Rattle.terms.proofs.OrderLaws.{ascending-unique}
+use Rattle.terms.proofs.RowsLaws.{zeros-at}
 use Rattle.completion.specs.Blocks.{box}
 use Rattle.completion.specs.Completed.{Enters, Completed, CompletedTable, candidate, entersTest, completedTest, joined, largest, completed}
 use Rattle.completion.proofs.BlockLaws.{ascending-keep, box-member, box-ascending}
@@ -175,15 +176,9 @@ joined-most b (a ∷ u) (d ∷ v) f g (suc zero) =
     max-le x y
 joined-most b (a ∷ u) (d ∷ v) f g (suc (suc i)) = joined-most b u v (most-tail b a u f) (most-tail b d v g) (suc i)
 
-zeros-most : (b n : ℕ) → AtMost b (replicate n 0)
-zeros-most b n zero = omega arith
-zeros-most b zero (suc i) = omega arith
-zeros-most b (suc n) (suc zero) = omega arith
-zeros-most b (suc n) (suc (suc i)) = zeros-most b n (suc i)
-
 pub largest-most : (b n : ℕ) (G : Table) → ((u : Monomial) → u ∈ G → AtMost b u) → AtMost b (largest n G)
 unfolding largest
-largest-most b n [] f = zeros-most b n
+largest-most b n [] f = most-by b (replicate n 0) (λ i. omega (arith, zeros-at n i))
 largest-most b n (u ∷ G) f = joined-most b u (largest n G) (f u (List·Memᴰ·head refl)) (largest-most b n G (λ v m. f v (List·Memᴰ·tail m)))
 
 -- Were u above the largest given exponent at i, the outside monomial would be at least that there, so raising it there would not let it enter.

@@ -4,6 +4,7 @@
 --   complete-accepts       where no check refuses: the row count, the rows at the front, and the bytes behind them
 --   complete-refuses       where one does: its number, and the buffer as it was
 --   complete-rows          an accepted result: the first rows of the buffer are rule 5's table of the given rows, and the bytes behind them stay
+--   complete-count, complete-front, complete-behind   its row count, the bytes of those rows, and the bytes behind them
 --   complete-length        no result changes the buffer's length
 --   room-fits              rows within the room fit the buffer
 --   room-enough, no-room   8 after the checks 1 to 4 passed, in terms of the completed table
@@ -14,8 +15,8 @@ use Prim.Native.Nat.{ℕ, zero, suc, _*_, _/_, _≤_, _<_}
 use native.Mathlib.Nat.{not-suc-le-zero, le-trans, min-le-left, min-le-right, mul-le-mul-right, div-mul-le-self}
 use native.Mathlib.Decide.{decLt}
 use native.Mathlib.Omega.{arith}
-use lib.ListN.{length, drop, length-append, length-drop}
-use lib.Seq.{drop-at}
+use lib.ListN.{length, take, drop, length-append, length-drop}
+use lib.Seq.{take-at, drop-at}
 use Rattle.terms.specs.Tests.{stable, pick-true, pick-false, tests-le, tests-eq}
 use Rattle.terms.specs.Monomials.{Table, OfSize}
 use Rattle.terms.specs.Rows.{rows, firstRows, flat}
@@ -119,6 +120,13 @@ module _ {n : ℕ} {table buffer : List ℕ} {k : ℕ} {after : List ℕ} (p : C
       let e : firstRows n k after ≡ completedOf n table = rw (complete-count, accepted-result .1)
       (firstRows-flat n (completedOf n table) (drop (length (completedOf n table) * n) buffer) (completedOf-size n table)) in
       subst (λ (H : Table). CompletedTable n (rows n table) H) (sym e) (completed-table n (rows n table) (rows-size n table))
+
+  -- the bytes at the front are the completed rows
+  pub complete-front : take (k * n) after ≡ flat (completedOf n table)
+  complete-front =
+      let l : length (flat (completedOf n table)) ≡ length (completedOf n table) * n = length-flat n (completedOf n table) (completedOf-size n table) in
+      rw (complete-count, accepted-result .1) (take-at (flat (completedOf n table)) (drop (length (completedOf n table) * n) buffer)
+      (length (completedOf n table) * n) l)
 
   pub complete-behind : drop (k * n) after ≡ drop (k * n) buffer
   complete-behind =

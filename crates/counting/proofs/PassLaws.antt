@@ -5,6 +5,7 @@
 --   share-small      no share exceeds the largest binomial
 --   shares-next, shares-done, shares-marked   the sum of shares from a row on, at the end, and with Janet's marks
 --   signed-next, signed-done, signed-marked   the same with signs
+--   SummedRow, summed-row   what is known of a row in the loops over the rows
 --   splits-..        what a share with a sign is, in each of its cases
 --   splits-add       sums of differences
 --   polynomial-split the polynomial as one difference
@@ -17,16 +18,15 @@ use mathlib.Core.Path.{_≡_, refl, sym, ap, ap₂, _∙_}
 use mathlib.Core.Bool.{true, false, not}
 use mathlib.Core.List.{List, [], _∷_, _++_}
 use mathlib.Core.Logic.{_⊎_, inl, inr, ⊎-elim, by-cases}
-use Prim.Native.Nat.{ℕ, zero, suc, _+_, _*_, _-_, _%_, _≤_, _<_, max}
+use Prim.Native.Nat.{ℕ, zero, suc, _+_, _*_, _-_, _/_, _%_, _≤_, _<_, max}
 use native.Mathlib.Nat.{not-suc-le-zero, le-of-suc-le-suc}
 use native.Mathlib.Numerals.{add-one}
 use native.Mathlib.Decide.{decLe, decLt, ℕ-discrete}
 use native.Mathlib.Omega.{arith}
 use borrow.Author.Tests.{lt-ltb, le-leb, lt-leb}
 use lib.Count.{ones, ones-le}
-use lib.Pow.{pow-mono}
 use lib.ListN.{length, getD, drop, set, replicate, length-append}
-use lib.ListN.{length-replicate, length-set, getD-replicate, drop-of-length-le, List·getD-append, List·getD-eq-default}
+use lib.ListN.{length-replicate, length-set, drop-of-length-le}
 use lib.Seq.{drop-cons, getD-set-same, getD-set-other}
 use lib.IntN.{ℤ, pos, negsuc, negℤ, natAbs, subℕ, _+ℤ_, _-ℤ_, +ℤ-idl, +ℤ-idr, +ℤ-assoc, +ℤ-comm, negℤ-+ℤ, negℤ-negℤ, pos-+ℤ-pos}
 use mir.Syntax.{w64}
@@ -36,8 +36,9 @@ use Rattle.binomial.proofs.ChooseLaws.{choose-over, choose-within}
 use Rattle.terms.specs.Tests.{pick}
 use Rattle.terms.specs.Monomials.{Monomial, Table, rowAt, degree}
 use Rattle.terms.specs.Rows.{rows}
-use Rattle.terms.proofs.RowsLaws.{rows-size}
-use Rattle.division.proofs.Facade.{multiplicativeTest, marksOf, tableMarks, marks-ones, marksOf-below, length-tableMarks, tableMarks-at}
+use Rattle.terms.proofs.RowsLaws.{length-rows, rows-size, zeros-at}
+use Rattle.terms.proofs.RefusalLaws.{degree-small}
+use Rattle.division.proofs.Facade.{multiplicativeTest, marksOf, tableMarks, marks-ones, marksOf-small, length-tableMarks, front-marks}
 use Rattle.counting.specs.Counts.{sum, sumℤ, share, marksIn, oddTest, chooseℤ, signedShare, polynomialAt, steadyOf, countAt}
 use Rattle.counting.specs.Sums.{sharesOf, signedSharesOf, shareSize, Known, Summable, Splits, Checked, Marked}
 use Rattle.counting.proofs.ShareLaws.{share-inside, share-outside}
@@ -71,12 +72,7 @@ share-near s d m h = size-near s d m h ∙ sym (share-inside s d m h)
 -- ---- the sizes that were asked before
 
 pub known-none : (s : ℕ) → Known s (replicate 2107 0)
-known-none s = record { long = length-replicate {A = ℕ} 2107 0; right = λ d m h g. inl (zeros-at (d * 7 + m)) }
-  where
-    zeros-at : (i : ℕ) → _≡_ {A = ℕ} (getD (replicate 2107 0) i 0) 0
-    zeros-at i = by-cases (decLt i 2107)
-        (λ l. getD-replicate 2107 i 0 0 l)
-        (λ g. List·getD-eq-default (replicate 2107 0) 0 {n = i} (rw length-replicate (omega arith)))
+known-none s = record { long = length-replicate {A = ℕ} 2107 0; right = λ d m h g. inl (zeros-at 2107 (d * 7 + m)) }
 
 -- a share is stored at its own place, and no other share has that place
 pub known-set : (s : ℕ) (known : List ℕ) (d m v : ℕ) → Known s known → m ≤ 6 → d * 7 + m < 2107 → v ≡ shareSize s d m → Known s (set known (d * 7 + m) v)
@@ -97,10 +93,6 @@ known-set s known d m v k few l e = record { long = length-set known (d * 7 + m)
 pub known-at : (s : ℕ) (known : List ℕ) (d m : ℕ) → Known s known → d ≤ 300 → m ≤ 6 → (getD known (d * 7 + m) 0 ≡ 0 → ⊥)
     → getD known (d * 7 + m) 0 ≡ shareSize s d m
 known-at s known d m k h g f = ⊎-elim (λ z. absurd (f z)) (λ z. z) (k .right d m h g)
-
--- a byte of six bits has at most six marks
-pub marks-few : (b : ℕ) → b < 64 → ones b ≤ 6
-marks-few b h = ones-le 6 b h
 
 module _ (s : ℕ) (G : Table) (marks : List ℕ) (k : ℕ) where
   pub shares-next : k < length G → k < length marks
@@ -157,7 +149,7 @@ module _ (n : ℕ) (t marks : List ℕ) (m : Marked n t marks) where
   signed-marked s = signed-marks s n (rows n t) (rows n t) marks (m .long) (m .at)
 
   mark-small : n ≤ 6 → (k : ℕ) → k < length (rows n t) → getD marks k 0 < 64
-  mark-small h k l = omega (arith, m .at k l, marksOf-below n (rows n t) (rowAt (rows n t) k), pow-mono {i = n} {j = 6} h)
+  mark-small h k l = omega (arith, m .at k l, marksOf-small n (rows n t) (rowAt (rows n t) k) h)
 
   pub summable : (s : ℕ) → Checked n t → s ≤ 300 → Summable n t marks s
   summable s c h = record { accepted = c .accepted; low = h; marked = m .long; few = mark-small (c .accepted .few) }
@@ -167,9 +159,7 @@ pub marked-front : (n : ℕ) (t rest marks : List ℕ) → marks ≡ tableMarks 
 marked-front n t rest marks e = record {
   long = omega (arith, simp length-append at (ap length e), length-tableMarks n (rows n t));
   at = λ r l.
-      ap (λ (x : List ℕ). getD x r 0) e
-      ∙ List·getD-append (tableMarks n (rows n t)) rest 0 r (omega (arith, length-tableMarks n (rows n t)))
-      ∙ tableMarks-at n (rows n t) r l;
+      ap (λ (x : List ℕ). getD x r 0) e ∙ front-marks n (rows n t) rest r l;
 }
 
 -- ---- a share with a sign, by its cases
@@ -227,6 +217,28 @@ module _ (s d m : ℕ) (low : s ≤ 300) (few : m ≤ 6) where
       difference = +ℤ-idr (pos (shareSize s d m)) ∙ sym (negative ∙ rw (odd-even m h));
       plus-small = omega (arith, size-small);
       minus-small = omega arith;
+    }
+
+-- ---- a row in the loops over the rows
+
+-- of row k of a table that can be summed: it is one of the table's, of at most 4,096, its marks stand in a byte, and marks and degree are small
+pub record SummedRow (n : ℕ) (t marks : List ℕ) (k : ℕ) : Type 0 where
+  pub within : k < length (rows n t)
+  pub counted : k < 4096
+  pub byte : k < length marks
+  pub few : ones (getD marks k 0) ≤ 6
+  pub small : degree (rowAt (rows n t) k) ≤ 300
+
+-- a byte of six bits has at most six marks
+pub summed-row : (n : ℕ) (t marks : List ℕ) (s k : ℕ) → Summable n t marks s → k < length t / n → SummedRow n t marks k
+summed-row n t marks s k a h =
+    let l : k < length (rows n t) = omega (arith, length-rows n t) in
+    record {
+      within = l;
+      counted = omega (arith, a .accepted .limited);
+      byte = omega (arith, a .marked);
+      few = ones-le 6 (getD marks k 0) (a .few k l);
+      small = degree-small n t (a .accepted) k l;
     }
 
 -- ---- sums of differences

@@ -183,7 +183,8 @@ module _ (ks : List Bool) (u : Monomial) (f : ℕ → List Monomial) (d m : ℕ)
   raised-suc k b [] = refl
   raised-suc k b (a ∷ q) = refl
 
-  split : (k : Bool) (b s : ℕ) → sum (in-cone k b) (extended f (suc s)) ≡ sum (in-cone k b) (map (λ w. 0 ∷ w) (f (suc s))) + sum (λ q. in-cone k b (raised q)) (extended f s)
+  split : (k : Bool) (b s : ℕ) → sum (in-cone k b) (extended f (suc s))
+      ≡ sum (in-cone k b) (map (λ w. 0 ∷ w) (f (suc s))) + sum (λ q. in-cone k b (raised q)) (extended f s)
   unfolding extended
   split k b s =
       sum-append (in-cone k b) (map (λ w. 0 ∷ w) (f (suc s))) (map raised (extended f s))

@@ -1,15 +1,14 @@
 -- Laws of the check whether an ascending table is complete, for the code that asks it row by row.
 --
---   product-times, product-length   a row's bytes with one of them raised are the row times that variable
+--   product-length                  a row's bytes with one of them raised: how many they are
 --   read-exponent, read-row         a row read from the table
---   covered-row, covered-nothing    a monomial has a Janet divisor exactly where the descent finds a row
+--   product-row, product-nothing    they are the row times that variable, and this has a Janet divisor exactly where the descent finds a row
 --   marked-variable, unmarked-variable   the test of a variable, by its bit of the marks
 --   each-goes-on, each-fails        a test of each variable, one after the other
 --   last-complete, next-complete, complete-fails, complete-whole, complete-none   rule 4's test, row after row from the end
 use mathlib.Core.Path.{_≡_, refl, sym, ap, _∙_, subst}
 use mathlib.Core.Bool.{Bool, true, false, _&&_}
 use mathlib.Core.List.{List, [], _∷_, List·Memᴰ, List·Memᴰ·cases-cons, List·Memᴰ·not-nil}
-use mathlib.Core.Option.{Option, none, some}
 use mathlib.Core.Logic.{⊎-elim}
 use Prim.Native.Nat.{ℕ, zero, suc, _+_, _-_, _/_, _%_, _^_, _≤_, _<_}
 use native.Mathlib.Nat.{not-suc-le-zero, le-of-suc-le-suc, eq-or-lt-of-le}
@@ -25,9 +24,10 @@ use Rattle.terms.proofs.RowsLaws.{rows-size, row-size, member-at, padded-at}
 use Rattle.division.specs.Janet.{multiplicativeTest, marksOf, coveredTest, completeTest}
 use Rattle.division.specs.Scan.{foundTest}
 use Rattle.division.specs.Descent.{descent}
-use Rattle.division.specs.Ranges.{foundRow, descended}
+use Rattle.division.specs.Ranges.{descended}
 use Rattle.division.specs.Completeness.{variableTest, rowTest}
 use Rattle.division.proofs.MarksLaws.{marks-bit, last-marks}
+use Rattle.division.proofs.RangeLaws.{found-some, found-none}
 use Rattle.division.proofs.DescentLaws.{covered-found}
 use Rattle.division.specs.declared.finding.Found.the-variants as Found
 use Rattle.division.specs.declared.finding.Descended.{Descended}
@@ -40,7 +40,7 @@ module _ (bytes : List ℕ) (n : ℕ) (fits : n ≤ length bytes) where
   pub product-length : (i v : ℕ) → length (take n (set bytes i v)) ≡ n
   product-length i v = length-take-le n (set bytes i v) (rw length-set fits)
 
-  pub product-times : (i : ℕ) → 0 < i → i ≤ n → take n (set bytes (i - 1) (getD bytes (i - 1) 0 + 1)) ≡ times (take n bytes) i 1
+  product-times : (i : ℕ) → 0 < i → i ≤ n → take n (set bytes (i - 1) (getD bytes (i - 1) 0 + 1)) ≡ times (take n bytes) i 1
   product-times zero p l = absurd (not-suc-le-zero p)
   product-times (suc i) p l =
       let e : suc i - 1 ≡ i = omega arith in
@@ -63,20 +63,29 @@ module _ (n : ℕ) (table : List ℕ) (k : ℕ) (l : k < length (rows n table)) 
 
 -- ---- a Janet divisor, by the descent
 
-row-found : (o : Option ℕ) (r : RowNumber) → foundRow o ≡ Found.Row r → true ≡ foundTest o
-row-found none r f = absurd (let z : _≡_ {A = ℕ} 0 1 = cc in omega arith)
-row-found (some x) r f = refl
-
-nothing-found : (o : Option ℕ) → foundRow o ≡ Found.Nothing → false ≡ foundTest o
-nothing-found none f = refl
-nothing-found (some x) f = absurd (let z : _≡_ {A = ℕ} 0 1 = cc in omega arith)
-
 module _ (n : ℕ) (table : List ℕ) (q : Monomial) (e : length q ≡ n) (d : Descended) (is : d ≡ descended (descent n (rows n table) q)) where
-  pub covered-row : (r : RowNumber) → d .found ≡ Found.Row r → true ≡ coveredTest (rows n table) q
-  covered-row r f = row-found (descent n (rows n table) q .found) r (cc) ∙ sym (covered-found (rows-size n table) q e)
+  covered-row : (r : RowNumber) → d .found ≡ Found.Row r → true ≡ coveredTest (rows n table) q
+  covered-row r f = sym (covered-found (rows-size n table) q e ∙ ap foundTest (found-some (descent n (rows n table) q .found) r (cc)))
 
-  pub covered-nothing : d .found ≡ Found.Nothing → false ≡ coveredTest (rows n table) q
-  covered-nothing f = nothing-found (descent n (rows n table) q .found) (cc) ∙ sym (covered-found (rows-size n table) q e)
+  covered-nothing : d .found ≡ Found.Nothing → false ≡ coveredTest (rows n table) q
+  covered-nothing f = sym (covered-found (rows-size n table) q e ∙ ap foundTest (found-none (descent n (rows n table) q .found) (cc)))
+
+module _ (n : ℕ) (table bytes : List ℕ) (fits : n ≤ length bytes) (i : ℕ) (p : 0 < i) (l : i ≤ n) where
+  abbrev raised : Monomial
+  raised = take n (set bytes (i - 1) (getD bytes (i - 1) 0 + 1))
+
+  module _ (d : Descended) (is : d ≡ descended (descent n (rows n table) raised)) where
+    as-product : coveredTest (rows n table) raised ≡ coveredTest (rows n table) (times (take n bytes) i 1)
+    as-product = ap (coveredTest (rows n table)) (product-times bytes n fits i p l)
+
+    size : length raised ≡ n
+    size = product-length bytes n fits (i - 1) (getD bytes (i - 1) 0 + 1)
+
+    pub product-row : (r : RowNumber) → d .found ≡ Found.Row r → true ≡ coveredTest (rows n table) (times (take n bytes) i 1)
+    product-row r f = covered-row n table raised size d is r f ∙ as-product
+
+    pub product-nothing : d .found ≡ Found.Nothing → false ≡ coveredTest (rows n table) (times (take n bytes) i 1)
+    product-nothing f = covered-nothing n table raised size d is f ∙ as-product
 
 -- ---- one variable of one row
 

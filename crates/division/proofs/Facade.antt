@@ -22,7 +22,8 @@ pub use Rattle.division.proofs.JanetLaws.{tests-multiplicative, tests-j
 pub use Rattle.division.proofs.JanetLaws.{multiplicative?, multiplicative-same, multiplicative-none}
 pub use Rattle.division.proofs.JanetLaws.{divisor-at, at-divisor, at-most-one, unique, janet-disjoint, ascending-distinct}
 pub use Rattle.division.proofs.MarksLaws.{marks-cat, marks-below, marks-same, marks-mod, marks-bit, marks-past, marks-injective, marks-all}
-pub use Rattle.division.proofs.MarksLaws.{marks-ones, count-le, count-same, length-tableMarks, tableMarks-at, marksOf-below, tests-marks}
+pub use Rattle.division.proofs.MarksLaws.{marks-ones, count-le, count-same, length-tableMarks, tableMarks-at, front-marks, tests-marks}
+pub use Rattle.division.proofs.MarksLaws.{marksOf-below, marksOf-small}
 pub use Rattle.division.proofs.Cover.{cover, covers-complete, inside-divisor, outside-none}
 pub use Rattle.division.proofs.DescentLaws.{descent-finds, descent-scan, descent-steps, descent-empty, covered-found}
 pub use Rattle.division.proofs.DescentLaws.{scan-finds, answers-first, first-unique, answers-unique}

@@ -7,12 +7,11 @@
 --   find-steps             the steps are at most the degree of the query plus n
 --   refuses-length, refuses-order, refuses-none   the number of the first check that refuses, where the table's pass
 --   find-ready, find-length   what is known of inputs that passed
-use mathlib.Core.Path.{_≡_, refl, sym, ap, _∙_, subst}
+use mathlib.Core.Path.{_≡_, refl, sym, ap, ap₂, _∙_, subst}
 use mathlib.Core.List.{List, [], _∷_}
 use mathlib.Core.Option.{Option, none, some}
 use Prim.Native.Nat.{ℕ, zero, suc, _+_, _≤_, _<_}
 use native.Mathlib.Nat.{not-suc-le-zero}
-use native.Mathlib.Omega.{arith}
 use lib.ListN.{length}
 use Rattle.terms.specs.Tests.{stable, tests-eq}
 use Rattle.terms.specs.Monomials.{degree}
@@ -26,10 +25,11 @@ use Rattle.terms.proofs.RefusalLaws.{accepts-head, accepts-tail, accepts-right,
 use Rattle.division.specs.Janet.{Multiplicative}
 use Rattle.division.specs.Scan.{Answers}
 use Rattle.division.specs.Descent.{Descent, descent}
-use Rattle.division.specs.Ranges.{Ready, foundRow, descended}
+use Rattle.division.specs.Ranges.{Ready, descended}
 use Rattle.division.specs.Operations.{OtherLength, NotAscending, lengthCheck, orderCheck, findChecks, findNumber}
 use Rattle.division.specs.Operations.{findRow, findSteps, findGives, findCase, findAnswer, FindPromise}
 use Rattle.division.proofs.DescentLaws.{descent-finds, descent-steps}
+use Rattle.division.proofs.RangeLaws.{found-some, found-none}
 use Rattle.division.specs.declared.finding.FindAnswer.{FindAnswer}
 use Rattle.division.specs.declared.finding.FindAnswer.the-variants.{Row, Nothing, Refused}
 use Rattle.division.specs.declared.finding.Found.the-variants as Found
@@ -62,15 +62,6 @@ case-number (suc m) d = refl
 case-refused : (m : ℕ) (d : Descent) → 0 < m → findCase m d ≡ Refused m
 case-refused zero d p = absurd (not-suc-le-zero p)
 case-refused (suc m) d p = refl
-
--- what the code's record holds decides the case
-row-given : (o : Option ℕ) (steps : ℕ) (r : RowNumber) (s : ℕ) → foundRow o ≡ Found.Row r → steps ≡ s → findGives o steps ≡ Row r s
-row-given none steps r s f e = absurd (let z : _≡_ {A = ℕ} 0 1 = cc in omega arith)
-row-given (some x) steps r s f e = cc
-
-nothing-given : (o : Option ℕ) (steps s : ℕ) → foundRow o ≡ Found.Nothing → steps ≡ s → findGives o steps ≡ Nothing s
-nothing-given none steps s f e = cc
-nothing-given (some x) steps s f e = absurd (let z : _≡_ {A = ℕ} 0 1 = cc in omega arith)
 
 -- the number is that of the answer
 find-make : {n : ℕ} {table query : List ℕ} {answer : FindAnswer} → answer ≡ findAnswer n table query → FindPromise n table query answer
@@ -132,15 +123,14 @@ module _ (n : ℕ) (table query : List ℕ) where
   -- ---- the answer from what the code's descent gives
 
   module _ (e : refusal (findChecks n table query) ≡ 0) (d : Descended) (is : d ≡ descended (descent n (rows n table) query)) where
+    given : (o : Option ℕ) → descent n (rows n table) query .found ≡ o → FindPromise n table query (findGives o (d .steps))
+    given o f = subst (λ (a : FindAnswer). FindPromise n table query a) (ap₂ findGives f (sym (ap (λ (x : Descended). x .steps) is))) (find-accepts e)
+
     pub find-row : (r : RowNumber) → d .found ≡ Found.Row r → FindPromise n table query (Row r (d .steps))
-    find-row r f = subst (λ (a : FindAnswer). FindPromise n table query a)
-        (row-given (descent n (rows n table) query .found) (descent n (rows n table) query .steps) r (d .steps) (cc) (cc))
-        (find-accepts e)
+    find-row r f = given (some (r .0)) (found-some (descent n (rows n table) query .found) r (cc))
 
     pub find-nothing : d .found ≡ Found.Nothing → FindPromise n table query (Nothing (d .steps))
-    find-nothing f = subst (λ (a : FindAnswer). FindPromise n table query a)
-        (nothing-given (descent n (rows n table) query .found) (descent n (rows n table) query .steps) (d .steps) (cc) (cc))
-        (find-accepts e)
+    find-nothing f = given none (found-none (descent n (rows n table) query .found) (cc))
 
   -- ---- what an accepted find answers, in the words of rules 3 and 6
 

@@ -32,11 +32,13 @@ use Rattle.terms.proofs.RefusalLaws.{accepts-head, accepts-right, TableAccepted
 use Rattle.division.specs.Ranges.{foundRow}
 use Rattle.division.specs.Scan.{foundTest}
 use Rattle.division.specs.Operations.{OtherLength, lengthCheck}
-use Rattle.division.specs.Inside.{firstFrom, firstDivisor, FirstDividing, DividesFirst, insideChecks, insideNumber, insideRow, insideGives, insideCase, insideAnswer, InsidePromise}
+use Rattle.division.specs.Inside.{firstFrom, firstDivisor, FirstDividing, DividesFirst}
+use Rattle.division.specs.Inside.{insideChecks, insideNumber, insideRow, insideGives, insideCase, insideAnswer, InsidePromise}
 use Rattle.division.specs.declared.inside.InsideAnswer.{InsideAnswer}
 use Rattle.division.specs.declared.inside.InsideAnswer.the-variants.{Row, Nothing, Refused}
 use Rattle.division.specs.declared.finding.Found.{Found}
 use Rattle.division.specs.declared.finding.Found.the-variants as Found
+use Rattle.division.proofs.RangeLaws.{found-some, found-none}
 
 -- ---- the first row that divides
 
@@ -139,15 +141,6 @@ case-refused : (m : ℕ) (o : Option ℕ) → 0 < m → insideCase m o ≡ Refus
 case-refused zero o p = absurd (not-suc-le-zero p)
 case-refused (suc m) o p = refl
 
--- what the code found decides the case
-row-given : (o : Option ℕ) (r : RowNumber) → foundRow o ≡ Found.Row r → insideGives o ≡ Row r
-row-given none r f = absurd (let z : _≡_ {A = ℕ} 0 1 = cc in omega arith)
-row-given (some x) r f = cc
-
-nothing-given : (o : Option ℕ) → foundRow o ≡ Found.Nothing → insideGives o ≡ Nothing
-nothing-given none f = refl
-nothing-given (some x) f = absurd (let z : _≡_ {A = ℕ} 0 1 = cc in omega arith)
-
 -- the number is that of the answer
 inside-make : {n : ℕ} {table query : List ℕ} {answer : InsideAnswer} → answer ≡ insideAnswer n table query → InsidePromise n table query answer
 unfolding insideAnswer
@@ -201,11 +194,14 @@ module _ (n : ℕ) (table query : List ℕ) where
       unfolding asRow firstDivisor
       found = is ∙ ap (λ (q : Monomial). foundRow (firstDivisor (rows n table) (padded q))) query-row ∙ ap foundRow (first-padded 0 (rows n table) query)
 
+      given : (o : Option ℕ) → firstDivisor (rows n table) query ≡ o → InsidePromise n table query (insideGives o)
+      given o h = subst (λ (a : InsideAnswer). InsidePromise n table query a) (ap insideGives h) (inside-accepts e)
+
       pub inside-row : (r : RowNumber) → f ≡ Found.Row r → InsidePromise n table query (Row r)
-      inside-row r h = subst (λ (a : InsideAnswer). InsidePromise n table query a) (row-given (firstDivisor (rows n table) query) r (sym found ∙ h)) (inside-accepts e)
+      inside-row r h = given (some (r .0)) (found-some (firstDivisor (rows n table) query) r (sym found ∙ h))
 
       pub inside-nothing : f ≡ Found.Nothing → InsidePromise n table query Nothing
-      inside-nothing h = subst (λ (a : InsideAnswer). InsidePromise n table query a) (nothing-given (firstDivisor (rows n table) query) (sym found ∙ h)) (inside-accepts e)
+      inside-nothing h = given none (found-none (firstDivisor (rows n table) query) (sym found ∙ h))
 
     -- ---- what an accepted answer says, in the words of rule 1
 

@@ -16,7 +16,7 @@ use Prim.Native.Nat.{ℕ, zero, suc, _+_, _-_, _^_, _≤_, _<_}
 use native.Mathlib.Nat.{not-suc-le-zero, eq-or-lt-of-le}
 use native.Mathlib.Decide.{decLe, decLt, ℕ-discrete}
 use native.Mathlib.Omega.{arith}
-use lib.ListN.{length, take, drop, getD, set, length-set, length-append, length-drop, drop-of-length-le, List·getD-append}
+use lib.ListN.{length, take, drop, getD, set, length-set, length-append, length-drop, drop-of-length-le}
 use lib.Seq.{drop-cons, set-split, set-at, take-suc, append-snoc, length-take-le, take-set-le, drop-set-lt}
 use lib.Seq.{getD-set-same, getD-set-other, getD-append-add, getD-drop, ext-getD}
 use Rattle.terms.specs.Tests.{stable, pick-true, pick-false, tests-le, tests-eq}
@@ -33,7 +33,7 @@ use Rattle.division.specs.Marking.{bufferCheck, marksChecks, marked, mar
 use Rattle.division.specs.Successor.{NextMarks}
 use Rattle.division.specs.declared.marking.MarksAnswer.{MarksAnswer}
 use Rattle.division.specs.declared.marking.MarksAnswer.the-variants.{Done, Refused}
-use Rattle.division.proofs.MarksLaws.{tableMarks-at, length-tableMarks, marks-highest}
+use Rattle.division.proofs.MarksLaws.{front-marks, length-tableMarks, marks-highest}
 use Rattle.division.proofs.OrderingLaws.{not-after-none}
 use Rattle.division.proofs.SuccessorLaws.{next-marks}
 
@@ -50,7 +50,8 @@ from-last b M k count v e l m h =
     rw (← e, take-set-le k b k v (omega arith), drop-set-lt (suc k) b k v (omega arith), drop-cons M k 0 (omega arith), g, ← h) (set-split b k v (omega arith))
 
 -- the byte before those is written
-pub from-before : (b M : List ℕ) (k count v : ℕ) → suc k < count → count ≤ length b → length M ≡ count → v ≡ getD M k 0 → set (from b M (suc k) count) k v ≡ from b M k count
+pub from-before : (b M : List ℕ) (k count v : ℕ) → suc k < count → count ≤ length b → length M ≡ count → v ≡ getD M k 0
+    → set (from b M (suc k) count) k v ≡ from b M k count
 from-before b M k count v l h m e =
     rw (
       take-suc b k 0 (omega arith),
@@ -60,7 +61,8 @@ from-before b M k count v l h m e =
       e,
     )
 
-pub from-step : (b M : List ℕ) (k count v : ℕ) → 0 < k → k < count → count ≤ length b → length M ≡ count → v ≡ getD M (k - 1) 0 → set (from b M k count) (k - 1) v ≡ from b M (k - 1) count
+pub from-step : (b M : List ℕ) (k count v : ℕ) → 0 < k → k < count → count ≤ length b → length M ≡ count → v ≡ getD M (k - 1) 0
+    → set (from b M k count) (k - 1) v ≡ from b M (k - 1) count
 from-step b M k count v p l h m e =
     let x : suc (k - 1) ≡ k = omega arith in
     subst (λ (y : ℕ). set (from b M y count) (k - 1) v ≡ from b M (k - 1) count) x (from-before b M (k - 1) count v (omega arith) h m e)
@@ -114,7 +116,8 @@ module _ (n : ℕ) (G : Table) (order : List ℕ) (s : Listing G (length G) orde
     before-listed = upto (k - 1) k (omega arith) l
 
     -- none stands between two that are listed one after the other
-    pub listed-marks : (m r : ℕ) → m ≡ marksOf n G (listed G order k) → NextMarks n (listed G order (k - 1)) (listed G order k) m r → r ≡ marksOf n G (listed G order (k - 1))
+    pub listed-marks : (m r : ℕ) → m ≡ marksOf n G (listed G order k) → NextMarks n (listed G order (k - 1)) (listed G order k) m r
+        → r ≡ marksOf n G (listed G order (k - 1))
     listed-marks m r e d = next-marks n G (listed G order (k - 1)) (listed G order k) (listed-member k l) none r
         (subst (λ (y : ℕ). NextMarks n (listed G order (k - 1)) (listed G order k) y r) e d)
       where
@@ -122,7 +125,8 @@ module _ (n : ℕ) (G : Table) (order : List ℕ) (s : Listing G (length G) orde
         none v i a b =
             let m = at-place v i in
             by-cases (decLt (m .0) k)
-            (λ h. not-after-none (upto (m .0) (k - 1) (omega arith) (omega arith)) (subst (λ (x : Monomial). Precedes (listed G order (k - 1)) x) (sym (m .2)) a))
+            (λ h. not-after-none (upto (m .0) (k - 1) (omega arith) (omega arith))
+            (subst (λ (x : Monomial). Precedes (listed G order (k - 1)) x) (sym (m .2)) a))
             (λ g. not-after-none (upto k (m .0) (omega arith) (m .1)) (subst (λ (x : Monomial). Precedes x (listed G order k)) (sym (m .2)) b))
 
     pub written-step : (before b : List ℕ) (v : ℕ) → length G ≤ length before → v ≡ marksOf n G (listed G order (k - 1)) → Written n G order before k b
@@ -163,7 +167,7 @@ module _ (n : ℕ) (G : Table) (order : List ℕ) (s : Listing G (length G) orde
       front i o =
           let m = s .places i o in
           ap (λ (y : ℕ). getD c y 0) (sym (m .2)) ∙ w .marks (m .0) (omega arith) (m .1) ∙ ap (λ (y : ℕ). marksOf n G (rowAt G y)) (m .2)
-          ∙ sym (tableMarks-at n G i o) ∙ sym (List·getD-append (tableMarks n G) (drop (length G) b) 0 i (omega (arith, length-tableMarks n G)))
+          ∙ sym (front-marks n G (drop (length G) b) i o)
 
       behind : (i : ℕ) → length G ≤ i → getD c i 0 ≡ getD (marked n G b) i 0
       behind i o =
@@ -178,7 +182,8 @@ module _ (n : ℕ) (G : Table) (order : List ℕ) (s : Listing G (length G) orde
 
 -- ---- what is promised
 
-pub marks-unique : {n : ℕ} {table buffer : List ℕ} {a b : MarksAnswer} {c d : List ℕ} → MarksPromise n table buffer a c → MarksPromise n table buffer b d → (a ≡ b) × (c ≡ d)
+pub marks-unique : {n : ℕ} {table buffer : List ℕ} {a b : MarksAnswer} {c d : List ℕ} → MarksPromise n table buffer a c
+    → MarksPromise n table buffer b d → (a ≡ b) × (c ≡ d)
 marks-unique p q = (p .answers ∙ sym (q .answers), p .writes ∙ sym (q .writes))
 
 case-number : (m : ℕ) → marksNumber (marksCase m) ≡ m

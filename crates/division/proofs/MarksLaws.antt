@@ -9,6 +9,8 @@
 --   marks-ones             the number of its bits is the number of marks
 --   count-le, count-same   there are at most n marks; their number depends on the variables 1 to n alone
 --   length-tableMarks, tableMarks-at, tests-marks   the marks of a table's rows
+--   front-marks            those at the front of a buffer
+--   marksOf-below, marksOf-small   a row's byte is below 2 ^ n, and below 64
 --   highest-marks          in a table in any order: a row that none comes after has all marks
 --   next-behind, -at, -before   of a row with a next row in the order of rows: with k the first variable where they differ, it has all marks
 --                          behind k, none at k, and before k those of the next row
@@ -16,14 +18,14 @@
 --   last-marks, marks-last, marks-successor   the same of an ascending table, whose next row stands next
 use mathlib.Core.Path.{_≡_, refl, sym, ap, _∙_, subst}
 use mathlib.Core.Bool.{Bool, true, false}
-use mathlib.Core.List.{[], _∷_, map}
+use mathlib.Core.List.{List, [], _∷_, _++_, map}
 use mathlib.Core.Logic.{⊎-elim, by-cases}
 use Prim.Native.Nat.{ℕ, zero, suc, _+_, _*_, _-_, _/_, _%_, _^_, _≤_, _<_}
 use native.Mathlib.Nat.{not-suc-le-zero, eq-or-lt-of-le, le-of-suc-le-suc, two-pow-succ, mod-eq-of-lt, div-eq-of-lt, mul-add-mod-self-right, mul-assoc}
 use native.Mathlib.Decide.{decLe}
 use native.Mathlib.Omega.{arith}
 use lib.Dec.{T, eqb}
-use lib.ListN.{length, getD, length-map}
+use lib.ListN.{length, getD, length-map, List·getD-append}
 use lib.Pow.{pow-add, pow-mono, field, high}
 use lib.Count.{ones, ones-cat}
 use Rattle.terms.specs.Tests.{Tests, pick, tests-as, tests-same, tests-true, tests-false}
@@ -163,9 +165,15 @@ pub tableMarks-at : (n : ℕ) (G : Table) (r : ℕ) → r < length G → getD (t
 unfolding tableMarks
 tableMarks-at n G r l = map-at (marksOf n G) G r l
 
+pub front-marks : (n : ℕ) (G : Table) (rest : List ℕ) (r : ℕ) → r < length G → getD (tableMarks n G ++ rest) r 0 ≡ marksOf n G (rowAt G r)
+front-marks n G rest r l = List·getD-append (tableMarks n G) rest 0 r (omega (arith, length-tableMarks n G)) ∙ tableMarks-at n G r l
+
 pub marksOf-below : (n : ℕ) (G : Table) (u : Monomial) → marksOf n G u < 2 ^ n
 unfolding marksOf
 marksOf-below n G u = marks-below (multiplicativeTest G u) n
+
+pub marksOf-small : (n : ℕ) (G : Table) (u : Monomial) → n ≤ 6 → marksOf n G u < 64
+marksOf-small n G u h = omega (arith, marksOf-below n G u, pow-mono {i = n} {j = 6} h)
 
 tests-bit : (b : Bool) → Tests (eqb (pick b 1 0) 1) (T b)
 tests-bit true = record { sound = λ t. tt; complete = λ t. tt }

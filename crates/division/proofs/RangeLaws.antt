@@ -9,10 +9,11 @@
 --   range-above, range-shared   the rows above the least exponent, and those that have it, are such ranges again
 --   range-none, range-next, range-gap, range-down   the four laws of the descent, of ranges
 --   larger-unique    there is one first later row with a larger exponent
+--   found-some, found-none   what the code's answer says of the row number that was found
 use mathlib.Core.Path.{_≡_, refl, sym, ap, _∙_, subst}
 use mathlib.Core.Bool.{Bool, true, false, _||_}
 use mathlib.Core.List.{List, [], _∷_, _++_, map, List·Memᴰ, List·Memᴰ·head, List·Memᴰ·tail, List·Memᴰ·cases-cons, List·Memᴰ·not-nil}
-use mathlib.Core.Option.{none, some}
+use mathlib.Core.Option.{Option, none, some}
 use mathlib.Core.Logic.{_⊎_, inl, inr, ⊎-elim, by-cases}
 use Prim.Native.Nat.{ℕ, zero, suc, _+_, _-_, _≤_, _<_}
 use native.Mathlib.Nat.{not-suc-le-zero, eq-or-lt-of-le}
@@ -29,7 +30,9 @@ use Rattle.terms.proofs.OrderLaws.{ascending-between}
 use Rattle.division.specs.Descent.{insert, distinct, last, numbersFrom, exponents, stepped, goesOn, onward, descend}
 use Rattle.division.proofs.NumberLaws.{distinct-in, map-in, numbers-in}
 use Rattle.division.proofs.DescentLaws.{exponents-in, stepped-in, stepped-make, tests-goesOn}
-use Rattle.division.specs.Ranges.{range, GroupRange, FirstLarger, after}
+use Rattle.division.specs.Ranges.{range, GroupRange, FirstLarger, after, foundRow}
+use Rattle.division.specs.declared.finding.Found.the-variants.{Row, Nothing}
+use Rattle.terms.specs.declared.RowNumber.{RowNumber}
 
 -- ---- the distinct numbers of a list
 
@@ -321,3 +324,13 @@ module _ {G : Table} {i lo hi : ℕ} (ascends : Ascending G) (R : GroupRange G i
           (by-cases (decLt mid hi) (λ l. inl (omega (arith, g l))) (λ f. let e : mid ≡ hi = omega (arith, F .within) in inr
           (ap (λ (m : ℕ). range mid m) (sym e) ∙ range-empty mid)))
           ∙ ap (λ (l : List ℕ). after 1 (descend G q k (suc i) l)) (sym (range-cons lo mid (F .later)))
+
+-- ---- the answer of the code
+
+pub found-some : (o : Option ℕ) (r : RowNumber) → foundRow o ≡ Row r → o ≡ some (r .0)
+found-some none r f = absurd (let z : _≡_ {A = ℕ} 0 1 = cc in omega arith)
+found-some (some x) r f = cc
+
+pub found-none : (o : Option ℕ) → foundRow o ≡ Nothing → o ≡ none
+found-none none f = refl
+found-none (some x) f = absurd (let z : _≡_ {A = ℕ} 0 1 = cc in omega arith)

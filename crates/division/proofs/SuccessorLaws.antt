@@ -70,4 +70,5 @@ module _ (n : ℕ) (G : Table) (a : Ascending G) (k : ℕ) (l : suc k < length G
 
   pub successor-marks : (m r : ℕ) → m ≡ marksOf n G (rowAt G (suc k)) → NextMarks n (rowAt G k) (rowAt G (suc k)) m r → r ≡ marksOf n G (rowAt G k)
   successor-marks m r e (inl h) = absurd (precedes-irreflexive (rowAt G (suc k)) (subst (λ (x : Monomial). Precedes x (rowAt G (suc k))) (h .0) (a k l)))
-  successor-marks m r e (inr d) = omega (arith, d .1 .marks, ap (λ (x : ℕ). x % 2 ^ (d .0)) e, marks-successor n G a k l (d .0) (d .1 .variable) (d .1 .same) (d .1 .less))
+  successor-marks m r e (inr d) =
+      omega (arith, d .1 .marks, ap (λ (x : ℕ). x % 2 ^ (d .0)) e, marks-successor n G a k l (d .0) (d .1 .variable) (d .1 .same) (d .1 .less))

@@ -9,7 +9,7 @@ use mathlib.Core.Path.{_≡_, refl, sym, ap, _∙_}
 use mathlib.Core.List.{List}
 use mathlib.Core.Logic.{by-cases}
 use Prim.Native.Nat.{ℕ, _≤_, _<_}
-use native.Mathlib.Nat.{le-trans, le-of-suc-le-suc}
+use native.Mathlib.Nat.{le-of-suc-le-suc}
 use native.Mathlib.Decide.{ℕ-discrete}
 use native.Mathlib.Omega.{arith}
 use lib.ListN.{length, getD}
@@ -48,7 +48,8 @@ row-small n table query r k p =
     omega (arith, find-finds n table query (Row r k) p z .within, find-ready n table query z .limited)
 
 -- an answer has the steps of the descent, at most degree plus n; a refusal has none
-pub steps-small : (n : ℕ) (table query : List ℕ) (answer : FindAnswer) → ((i : ℕ) → getD query i 0 < 256) → FindPromise n table query answer → findNumber answer ≡ 0 → findSteps answer ≤ 1536
+pub steps-small : (n : ℕ) (table query : List ℕ) (answer : FindAnswer) → ((i : ℕ) → getD query i 0 < 256) → FindPromise n table query answer
+    → findNumber answer ≡ 0 → findSteps answer ≤ 1536
 steps-small n table query answer h p e =
     let z : refusal (findChecks n table query) ≡ 0 = sym (p .number) ∙ e in
     let few = degree-most 255 query (most-by 255 query (λ i. le-of-suc-le-suc (h i))) in
@@ -96,4 +97,5 @@ inside-small n table query r p =
 -- ---- complete
 
 pub count-small : (n : ℕ) (table buffer : List ℕ) (k : ℕ) (after : List ℕ) → CompletePromise n table buffer (complete.Rows k) after → k ≤ 4096
-count-small n table buffer k after p = le-trans (omega (arith, complete-count p, accepted-room n table (length buffer) (sym (p .number)))) (room-limited n (length buffer))
+count-small n table buffer k after p =
+    omega (arith, complete-count p, accepted-room n table (length buffer) (sym (p .number)), room-limited n (length buffer))

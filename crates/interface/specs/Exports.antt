@@ -18,7 +18,8 @@ use Rattle.completion.specs.declared.CompleteAnswer.{CompleteAnswer}
 use Rattle.division.specs.Operations.{FindPromise, findNumber, findSteps}
 use Rattle.division.specs.declared.finding.FindAnswer.{FindAnswer}
 use Rattle.division.specs.declared.finding.FindAnswer.the-variants as find
-use Rattle.counting.specs.Operations.{CountPromise, PolynomialPromise, SteadyPromise, countNumber, countValue, polynomialNumber, polynomialValue, steadyNumber, steadyValue}
+use Rattle.counting.specs.Operations.{CountPromise, PolynomialPromise, SteadyPromise}
+use Rattle.counting.specs.Operations.{countNumber, countValue, polynomialNumber, polynomialValue, steadyNumber, steadyValue}
 use Rattle.counting.specs.declared.CountAnswer.{CountAnswer}
 use Rattle.counting.specs.declared.PolynomialAnswer.{PolynomialAnswer}
 use Rattle.counting.specs.declared.SteadyAnswer.{SteadyAnswer}

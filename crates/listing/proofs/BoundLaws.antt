@@ -6,8 +6,7 @@
 use mathlib.Core.Path.{_≡_, sym}
 use mathlib.Core.List.{List, [], _∷_, _++_, append-assoc}
 use mathlib.Core.Logic.{by-cases}
-use Prim.Native.Nat.{ℕ, zero, suc, _+_, _*_, _/_, _^_, _≤_, _<_}
-use native.Mathlib.Nat.{le-trans, pow-le-pow-right}
+use Prim.Native.Nat.{ℕ, zero, suc, _+_, _*_, _/_, _≤_, _<_}
 use native.Mathlib.Decide.{decLe, decLt}
 use native.Mathlib.Omega.{arith}
 use lib.ListN.{length, getD, length-append}
@@ -18,7 +17,7 @@ use Rattle.terms.proofs.MonomialLaws.{most-tail}
 use Rattle.terms.proofs.RowsLaws.{member-at, rows-size}
 use Rattle.terms.proofs.RefusalLaws.{TableAccepted, rows-small}
 use Rattle.division.specs.Janet.{tableMarks}
-use Rattle.division.proofs.MarksLaws.{tableMarks-at, marksOf-below}
+use Rattle.division.proofs.MarksLaws.{tableMarks-at, marksOf-small}
 use Rattle.completion.specs.Completed.{completed}
 use Rattle.completion.specs.Operation.{completedOf}
 use Rattle.completion.proofs.CompletedLaws.{completed-most}
@@ -47,10 +46,6 @@ decimal-four x h = by-cases (decLt x 10) (λ l. omega (arith, decimal-digit x l)
     (λ g. omega (arith, decimal-more-length x (omega arith), decimal-three (x / 10) (omega arith)))
 
 -- ---- rows
-
--- a byte of at most six marks
-pow-le : (n : ℕ) → n ≤ 6 → 2 ^ n ≤ 64
-pow-le n h = le-trans (pow-le-pow-right (omega arith) h) (omega arith)
 
 spaced-bound : (u : Monomial) → AtMost 50 u → length (spaced u) ≤ 3 * length u
 unfolding spaced
@@ -83,7 +78,8 @@ module _ (j : ℕ) (H : Table) (marks : List ℕ) {given count made steady s : �
   unfolding wholeText
   wholeText-parts = rw (← e, ← f, g) (append-assoc (tableLine j given (length H)) (rowLines H marks (length H)) (steadyLine steady))
 
-  pub wholeText-sum : length (wholeText j given H marks steady) ≡ length (tableLine j count made) + (length (rowLines H marks (length H)) + length (steadyLine s))
+  pub wholeText-sum : length (wholeText j given H marks steady)
+      ≡ length (tableLine j count made) + (length (rowLines H marks (length H)) + length (steadyLine s))
   wholeText-sum = rw (← e, ← f, g) (wholeText-length j given H marks steady)
 
 wholeText-bound : (j given : ℕ) (H : Table) (marks : List ℕ) (steady : ℕ) → j < 100 → given ≤ 4096 → length H ≤ 4096 → steady ≤ 300
@@ -128,18 +124,18 @@ module _ (n j : ℕ) (t : List ℕ) (a : TableAccepted n t) where
       let H : Table = completedOf n t in
       let u : Monomial = rowAt H k in
       let m : u ∈ H = member-at H [] k h in
-      let power : 2 ^ n ≤ 64 = pow-le n (a .few) in
       rowLine-bound u (getD (tableMarks n H) k 0)
       (omega (arith, completedOf-size n t u m, a .few))
       (small u m)
-      (omega (arith, tableMarks-at n H k h, marksOf-below n H u))
+      (omega (arith, tableMarks-at n H k h, marksOf-small n H u (a .few)))
 
   steady-bound : steadyOf (completedOf n t) ≤ 300
   steady-bound = omega (arith, steady-most n 50 (completedOf n t) (completedOf-size n t) small, a .few)
 
   made-bound : j < 100 → length (completedOf n t) ≤ 4096 → length (completedText n j (length (rows n t)) (completedOf n t)) ≤ 94229
   unfolding completedText
-  made-bound h l = wholeText-bound j (length (rows n t)) (completedOf n t) (tableMarks n (completedOf n t)) (steadyOf (completedOf n t)) h (a .limited) l steady-bound row-bound
+  made-bound h l = wholeText-bound j (length (rows n t)) (completedOf n t) (tableMarks n (completedOf n t)) (steadyOf (completedOf n t))
+      h (a .limited) l steady-bound row-bound
 
   pub text-bound : j < 100 → length (tableText n j (rows n t)) ≤ 94229
   text-bound h = by-cases (decLe (length (completedOf n t)) 4096)

@@ -18,11 +18,15 @@ use Rattle.completion.specs.Completed.{completed, completedTest, entersTest, ca
 use Rattle.counting.specs.Counts.{steadyOf}
 use Rattle.bundle.specs.Format.{rowCount, offsetOf, placeOf}
 use Rattle.bundle.specs.Checks.{tablesChecks}
-use Rattle.listing.specs.Text.{digitsOf, decimal, fields, tableLine, rowLine, steadyLine, noRoomLine, refusalLine, rowLines, wholeText, completedText, tableText, tablesText, bundleText}
+use Rattle.listing.specs.Text.{digitsOf, decimal, fields, tableLine, rowLine, steadyLine, noRoomLine, refusalLine, rowLines}
+use Rattle.listing.specs.Text.{wholeText, completedText, tableText, tablesText, bundleText}
 
 -- the output, with every definition that it rests on open to computation
 unfoldable output : List ℕ → List ℕ
-unfolding bundleText tablesText tableText completedText wholeText rowLines tableLine rowLine steadyLine noRoomLine refusalLine fields decimal digitsOf refusal tablesChecks rowCount offsetOf placeOf rows firstRows completed completedTest entersTest candidate largest joined box behind repeated insideTest dividesTest tableMarks marksOf marksByte multiplicativeTest group sameBeforeTest steadyOf degree
+unfolding bundleText tablesText tableText completedText wholeText rowLines tableLine rowLine steadyLine noRoomLine refusalLine fields decimal digitsOf
+    refusal tablesChecks rowCount offsetOf placeOf rows firstRows
+    completed completedTest entersTest candidate largest joined box behind repeated insideTest dividesTest
+    tableMarks marksOf marksByte multiplicativeTest group sameBeforeTest steadyOf degree
 output b = bundleText b
 
 -- T 0 2 3, 0 2 : 2, 1 2 : 2, 2 1 : 3, S 3

@@ -60,7 +60,8 @@ pub table-part : (b : List ℕ) (j : ℕ) → refusal (bundleChecks b) ≡ 0 →
 table-part b j e h =
     pick-true (tests-lt j (tableCount b)) (tableText (variablesOf b) j (tableOf b j)) [] h ∙ accepted-part b j e
 
-pub part-none : (b : List ℕ) (j : ℕ) {m : ℕ} {f : Located} → m ≡ refusal (bundleChecks b) → m ≡ 0 → LocatePromise b j f → (f .refusal ≡ 0 → ⊥) → [] ≡ partText b j
+pub part-none : (b : List ℕ) (j : ℕ) {m : ℕ} {f : Located} → m ≡ refusal (bundleChecks b) → m ≡ 0 → LocatePromise b j f
+    → (f .refusal ≡ 0 → ⊥) → [] ≡ partText b j
 part-none b j e z p g = past-part b j (sym e ∙ z) (λ h. g (p .number ∙ sym (opens-table b j (sym e ∙ z) h)))
 
 pub refusalLine-bound : (m : ℕ) → m < 256 → length (refusalLine m) ≤ 94229

@@ -12,7 +12,6 @@ use native.Mathlib.Nat.{le-min, le-div-iff-mul-le}
 use native.Mathlib.Decide.{decLe}
 use native.Mathlib.Omega.{arith}
 use lib.ListN.{length, take, drop, length-append, List·getD-append}
-use lib.Seq.{take-at}
 use Rattle.terms.specs.Monomials.{Table}
 use Rattle.terms.specs.Order.{Ascending}
 use Rattle.terms.specs.Rows.{rows, flat}
@@ -26,7 +25,8 @@ use Rattle.completion.specs.Operation.{roomFor, completedOf, CompletePromise}
 use Rattle.completion.specs.declared.CompleteAnswer.{CompleteAnswer}
 use Rattle.completion.specs.declared.CompleteAnswer.the-variants.{Rows, Refused}
 use Rattle.completion.proofs.CompletedLaws.{completed-table}
-use Rattle.completion.proofs.OperationLaws.{complete-unique, complete-accepts, complete-count, complete-kept, complete-length, room-enough, room-fits, accepted-room, room-limited, completedOf-size}
+use Rattle.completion.proofs.OperationLaws.{complete-count, complete-front, complete-kept, complete-length}
+use Rattle.completion.proofs.OperationLaws.{room-enough, room-fits, accepted-room, room-limited, completedOf-size}
 use Rattle.counting.specs.Counts.{steadyOf}
 use Rattle.listing.specs.Text.{rowLines, tableLine, steadyLine, wholeText, completedText, tableText}
 use Rattle.listing.proofs.BoundLaws.{tableText-room}
@@ -68,8 +68,7 @@ made-rows {n} {table} {buffer} {answer} {k} {after} r q e =
     let H : Table = completedOf n table in
     let z = completedOf-size n table in
     let counted : k ≡ length H = complete-count p in
-    let there : after ≡ flat H ++ drop (length H * n) buffer = complete-unique p (complete-accepts n table buffer (sym (p .number))) .1 in
-    let front : take (k * n) after ≡ flat H = rw (counted, there) (take-at (flat H) (drop (length H * n) buffer) (length H * n) (length-flat n H z)) in
+    let front : take (k * n) after ≡ flat H = complete-front p in
     let room = accepted-room n table (length buffer) (sym (p .number)) in
     record {
       some = t .some;

@@ -20,7 +20,8 @@ use lib.Seq.{take-suc, take-take, take-at}
 use Rattle.terms.specs.Monomials.{Monomial, Table, rowAt}
 use Rattle.terms.specs.Rows.{padded, asRow}
 use Rattle.terms.specs.declared.Row.{Row}
-use Rattle.listing.specs.Text.{digit, digitsOf, decimal, valueFrom, space, lineFeed, fields, letterT, letterS, letterR, colon, tableLine, rowLine, steadyLine, noRoomLine, refusalLine, rowLines}
+use Rattle.listing.specs.Text.{digit, digitsOf, decimal, valueFrom, space, lineFeed, fields, letterT, letterS, letterR, colon}
+use Rattle.listing.specs.Text.{tableLine, rowLine, steadyLine, noRoomLine, refusalLine, rowLines}
 use Rattle.listing.specs.Written.{Wrote, spaced}
 use Rattle.listing.proofs.WrittenLaws.{wrote-as, wrote-then}
 
@@ -170,8 +171,11 @@ spaced-part u i n h =
     ∙ ap (λ (l : Monomial). spaced l ++ spaced (drop i w)) (take-take i n u h) in
     omega (arith, ap length e, length-append (spaced (take i u)) (spaced (drop i w)))
 
-pub spaced-fits : (u : Monomial) (i n : ℕ) → i < n → i < length u → length (spaced (take i u)) + length (decimal (getD u i 0) ++ (space ∷ [])) ≤ length (spaced (take n u))
-spaced-fits u i n h k = omega (arith, ap length (spaced-next u i k), length-append (spaced (take i u)) (decimal (getD u i 0) ++ (space ∷ [])), spaced-part u (i + 1) n (omega arith))
+pub spaced-fits : (u : Monomial) (i n : ℕ) → i < n → i < length u
+    → length (spaced (take i u)) + length (decimal (getD u i 0) ++ (space ∷ [])) ≤ length (spaced (take n u))
+spaced-fits u i n h k =
+    let parts = length-append (spaced (take i u)) (decimal (getD u i 0) ++ (space ∷ [])) in
+    omega (arith, ap length (spaced-next u i k), parts, spaced-part u (i + 1) n (omega arith))
 
 -- ---- the lines of the rows, one after the other
 
@@ -188,9 +192,11 @@ pub rowLines-next : (H : Table) (marks : List ℕ) (k : ℕ) → rowLines H mark
 unfolding rowLines
 rowLines-next H marks k = rw add-one
 
-pub rowLines-fits : (H : Table) (marks : List ℕ) (k m : ℕ) → k < m → length (rowLines H marks k) + length (rowLine (rowAt H k) (getD marks k 0)) ≤ length (rowLines H marks m)
+pub rowLines-fits : (H : Table) (marks : List ℕ) (k m : ℕ) → k < m
+    → length (rowLines H marks k) + length (rowLine (rowAt H k) (getD marks k 0)) ≤ length (rowLines H marks m)
 rowLines-fits H marks k m h =
-    omega (arith, ap length (rowLines-next H marks k), length-append (rowLines H marks k) (rowLine (rowAt H k) (getD marks k 0)), rowLines-part H marks (k + 1) m (omega arith))
+    let parts = length-append (rowLines H marks k) (rowLine (rowAt H k) (getD marks k 0)) in
+    omega (arith, ap length (rowLines-next H marks k), parts, rowLines-part H marks (k + 1) m (omega arith))
 
 -- a row read from a table has the exponents of the row
 pub row-read : (n : ℕ) (w : Monomial) {u : Row} → u ≡ asRow n w → length w ≡ n → take (u .n) (u .exponents) ≡ w

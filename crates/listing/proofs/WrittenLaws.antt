@@ -24,11 +24,15 @@ head-length o at s h = length-append (take at o) s ∙ rw (length-take-le at o h
 
 take-written : (o : List ℕ) (at : ℕ) (s : List ℕ) → at ≤ length o → take (at + length s) (written o at s) ≡ take at o ++ s
 unfolding written
-take-written o at s h = rw (← append-assoc (take at o) s (drop (at + length s) o)) (take-at (take at o ++ s) (drop (at + length s) o) (at + length s) (head-length o at s h))
+take-written o at s h =
+    rw (← append-assoc (take at o) s (drop (at + length s) o))
+    (take-at (take at o ++ s) (drop (at + length s) o) (at + length s) (head-length o at s h))
 
 drop-written : (o : List ℕ) (at : ℕ) (s : List ℕ) → at ≤ length o → drop (at + length s) (written o at s) ≡ drop (at + length s) o
 unfolding written
-drop-written o at s h = rw (← append-assoc (take at o) s (drop (at + length s) o)) (drop-at (take at o ++ s) (drop (at + length s) o) (at + length s) (head-length o at s h))
+drop-written o at s h =
+    rw (← append-assoc (take at o) s (drop (at + length s) o))
+    (drop-at (take at o ++ s) (drop (at + length s) o) (at + length s) (head-length o at s h))
 
 -- a text behind another is both as one text
 pub written-then : (o : List ℕ) (at : ℕ) (s t : List ℕ) → at ≤ length o → written (written o at s) (at + length s) t ≡ written o at (s ++ t)

@@ -12,12 +12,11 @@ use native.Mathlib.Nat.{le-trans}
 use native.Mathlib.Decide.{decLt}
 use native.Mathlib.Omega.{arith}
 use lib.ListN.{length, take, drop}
-use lib.Seq.{take-at}
 use Rattle.terms.specs.Monomials.{Monomial, Table, _!_, degree}
 use Rattle.terms.specs.Order.{Ascending}
 use Rattle.terms.specs.Rows.{rows, firstRows, flat}
 use Rattle.terms.specs.Refusals.{Check, Accepts, Refuses, refusal, tableChecks}
-use Rattle.terms.proofs.RowsLaws.{rows-size, rows-flat, length-flat}
+use Rattle.terms.proofs.RowsLaws.{rows-size, rows-flat}
 use Rattle.terms.proofs.RefusalLaws.{accepted, accepts-nil, accepts-cons, accepts-left, accepts-append, accepts-refusal, refusal-refuses, refuses-refusal}
 use Rattle.terms.proofs.RefusalLaws.{TableAccepted, table-accepted, accepts-table, rows-small}
 use Rattle.division.specs.Janet.{Multiplicative, Complete}
@@ -29,7 +28,8 @@ use Rattle.completion.specs.declared.CompleteAnswer.{CompleteAnswer}
 use Rattle.completion.specs.declared.CompleteAnswer.the-variants.{Rows, Refused}
 use Rattle.completion.proofs.CompletedLaws.{completed-table, completed-unique, completed-most}
 use Rattle.completion.proofs.CompletionLaws.{completion-ideal, completion-complete, completion-one, completion-none, completion-size}
-use Rattle.completion.proofs.OperationLaws.{complete-unique, complete-accepts, complete-refuses, complete-count, complete-rows, complete-behind, complete-kept, room-enough, no-room, accepted-room, room-limited}
+use Rattle.completion.proofs.OperationLaws.{complete-unique, complete-refuses, complete-rows, complete-front, complete-behind, complete-kept}
+use Rattle.completion.proofs.OperationLaws.{room-enough, no-room, accepted-room, room-limited}
 use Rattle.counting.specs.Counts.{CountsOutside, countAt}
 use Rattle.counting.proofs.CountLaws.{count-outside}
 use Rattle.division.proofs.Cover.{inside-divisor}
@@ -46,9 +46,9 @@ use Rattle.terms.specs.Monomials.{rowAt}
 use Rattle.division.specs.Janet.{marksOf, tableMarks}
 use Rattle.division.specs.Marking.{MarksPromise, marksNumber}
 use Rattle.division.specs.declared.marking.MarksAnswer.{MarksAnswer}
-use Rattle.division.proofs.MarksLaws.{tests-marks, tableMarks-at, length-tableMarks, marksOf-below}
+use Rattle.division.proofs.MarksLaws.{tests-marks, front-marks, length-tableMarks, marksOf-below}
 use Rattle.division.proofs.MarkingLaws.{marks-unique, marks-accepts, marks-refuses}
-use lib.ListN.{getD, List·getD-append}
+use lib.ListN.{getD}
 use lib.Seq.{drop-at}
 use Rattle.bundle.specs.Checks.{openChecks}
 use Rattle.bundle.specs.Operation.{opened}
@@ -71,7 +71,8 @@ complete-leaves : (n : ℕ) (table buffer : List ℕ) (answer : CompleteAnswer) 
     → 0 < completeNumber answer → after ≡ buffer
 complete-leaves n table buffer answer after p l = complete-unique p (complete-refuses n table buffer (omega (arith, p .number))) .1
 
-marks-leaves : (n : ℕ) (table buffer : List ℕ) (answer : MarksAnswer) (after : List ℕ) → MarksPromise n table buffer answer after → 0 < marksNumber answer → after ≡ buffer
+marks-leaves : (n : ℕ) (table buffer : List ℕ) (answer : MarksAnswer) (after : List ℕ) → MarksPromise n table buffer answer after
+    → 0 < marksNumber answer → after ≡ buffer
 marks-leaves n table buffer answer after p l = marks-unique p (marks-refuses n table buffer (marksNumber answer) l (p .number)) .1
 
 -- beside the number of a refused table stand 0 and an empty part
@@ -148,7 +149,7 @@ marking-of n table buffer answer after p e = record {
     written = marks-unique p (marks-accepts n table buffer (sym (p .number) ∙ e)) .1
 
     byte : (r : ℕ) → r < length G → getD after r 0 ≡ marksOf n G (rowAt G r)
-    byte r l = ap (λ (b : List ℕ). getD b r 0) written ∙ List·getD-append (tableMarks n G) (drop (length G) buffer) 0 r (omega (arith, length-tableMarks n G)) ∙ tableMarks-at n G r l
+    byte r l = ap (λ (b : List ℕ). getD b r 0) written ∙ front-marks n G (drop (length G) buffer) r l
 
 pub demand-two : DemandTwo
 demand-two = record {
@@ -194,9 +195,7 @@ module _ (n : ℕ) (table buffer : List ℕ) (k : ℕ) (after : List ℕ) (p : C
 
   -- the bytes at the buffer's front are its rows
   written : take (k * n) after ≡ flat H
-  written =
-      let u = complete-unique p (complete-accepts n table buffer (sym (p .number))) in
-      rw (complete-count p, u .1) (take-at (flat H) (drop (length H * n) buffer) (length H * n) (length-flat n H (completion-size is)))
+  written = complete-front p
 
   passed : Accepts (tableChecks n table)
   passed = accepts-left (tableChecks n table) _ (accepted (completeChecks n table (length buffer)) (sym (p .number)))

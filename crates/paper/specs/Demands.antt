@@ -32,7 +32,8 @@ use Rattle.division.specs.Operations.{FindPromise, findChecks, findNumber, find
 use Rattle.completion.specs.Completed.{CompletedTable}
 use Rattle.completion.specs.Operation.{CompletePromise, completeChecks, completeNumber, completeRows, roomFor}
 use Rattle.counting.specs.Counts.{CountsOutside}
-use Rattle.counting.specs.Operations.{CountPromise, PolynomialPromise, SteadyPromise, countChecks, steadyChecks, countNumber, countValue, polynomialNumber, steadyNumber}
+use Rattle.counting.specs.Operations.{CountPromise, PolynomialPromise, SteadyPromise, countChecks, steadyChecks}
+use Rattle.counting.specs.Operations.{countNumber, countValue, polynomialNumber, steadyNumber}
 use Rattle.bundle.specs.Checks.{openChecks}
 use Rattle.bundle.specs.Operation.{LocatePromise, OpenPromise}
 use Rattle.completion.specs.declared.CompleteAnswer.{CompleteAnswer}
@@ -52,7 +53,8 @@ pub record Settled (checks : List Check) (number : ℕ) : Type 1 where
 pub record DemandOne : Type 1 where
   pub marks : (n : ℕ) (table buffer : List ℕ) (answer : MarksAnswer) (after : List ℕ) → MarksPromise n table buffer answer after
       → Settled (marksChecks n table (length buffer)) (marksNumber answer) × (0 < marksNumber answer → after ≡ buffer)
-  pub inside : (n : ℕ) (table query : List ℕ) (answer : InsideAnswer) → InsidePromise n table query answer → Settled (insideChecks n table query) (insideNumber answer)
+  pub inside : (n : ℕ) (table query : List ℕ) (answer : InsideAnswer) → InsidePromise n table query answer
+      → Settled (insideChecks n table query) (insideNumber answer)
   pub complete : (n : ℕ) (table buffer : List ℕ) (answer : CompleteAnswer) (after : List ℕ) → CompletePromise n table buffer answer after
       → Settled (completeChecks n table (length buffer)) (completeNumber answer) × (0 < completeNumber answer → after ≡ buffer)
   pub find : (n : ℕ) (table query : List ℕ) (answer : FindAnswer) → FindPromise n table query answer → Settled (findChecks n table query) (findNumber answer)
@@ -96,10 +98,12 @@ pub record OneDivisor (G : Table) (q : Monomial) (r : ℕ) : Type 0 where
   pub only : (s : ℕ) → DivisorAt Multiplicative G s q → s ≡ r
 
 pub record DemandThree : Type 1 where
-  pub one : (n : ℕ) (table buffer : List ℕ) (answer : CompleteAnswer) (after : List ℕ) → CompletePromise n table buffer answer after → completeNumber answer ≡ 0
-      → (q : Monomial) → length q ≡ n → ((i : ℕ) → q ! i ≤ 255) → Inside (rows n table) q → (r : ℕ) × OneDivisor (firstRows n (completeRows answer) after) q r
-  pub none : (n : ℕ) (table buffer : List ℕ) (answer : CompleteAnswer) (after : List ℕ) → CompletePromise n table buffer answer after → completeNumber answer ≡ 0
-      → (q : Monomial) → length q ≡ n → (Inside (rows n table) q → ⊥) → (r : ℕ) → DivisorAt Multiplicative (firstRows n (completeRows answer) after) r q → ⊥
+  pub one : (n : ℕ) (table buffer : List ℕ) (answer : CompleteAnswer) (after : List ℕ) → CompletePromise n table buffer answer after
+      → completeNumber answer ≡ 0 → (q : Monomial) → length q ≡ n → ((i : ℕ) → q ! i ≤ 255) → Inside (rows n table) q
+      → (r : ℕ) × OneDivisor (firstRows n (completeRows answer) after) q r
+  pub none : (n : ℕ) (table buffer : List ℕ) (answer : CompleteAnswer) (after : List ℕ) → CompletePromise n table buffer answer after
+      → completeNumber answer ≡ 0 → (q : Monomial) → length q ≡ n → (Inside (rows n table) q → ⊥)
+      → (r : ℕ) → DivisorAt Multiplicative (firstRows n (completeRows answer) after) r q → ⊥
   -- find gives row number r exactly when that row is the Janet divisor; this is what a scan of all rows finds
   pub found : (n : ℕ) (table query : List ℕ) (answer : FindAnswer) → FindPromise n table query answer → findNumber answer ≡ 0
       → (r : ℕ) → (findRow answer ≡ some r) ↔ DivisorAt Multiplicative (rows n table) r query

@@ -33,7 +33,8 @@ pub record StarredExamples : Type 0 where
   -- row 3, n = 1: count at 2 is 3, polynomial 3 at every s
   pub C : (countAt 1 tableC 2 ≡ 3) × ((s : ℕ) → polynomialAt 1 tableC s ≡ pos 3)
   -- the listing: its completed rows and their marks; count at 3 is 6, polynomial at 0 is 3 while the count is 1
-  pub D : CompletedTable 2 tableD completedD × (tableMarks 2 completedD ≡ 2 ∷ 2 ∷ 3 ∷ []) × (countAt 2 completedD 3 ≡ 6) × (polynomialAt 2 completedD 0 ≡ pos 3) × (countAt 2 completedD 0 ≡ 1)
+  pub D : CompletedTable 2 tableD completedD × (tableMarks 2 completedD ≡ 2 ∷ 2 ∷ 3 ∷ [])
+      × (countAt 2 completedD 3 ≡ 6) × (polynomialAt 2 completedD 0 ≡ pos 3) × (countAt 2 completedD 0 ≡ 1)
   -- rows 1 0 and 1 0: completed to one row
   pub E : CompletedTable 2 tableE completedE
   -- marks 4, 4, 6, 6, 7; not complete

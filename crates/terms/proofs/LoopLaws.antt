@@ -24,11 +24,12 @@ use Rattle.terms.specs.Monomials.{Monomial, Table, _!_, rowAt, degree}
 use Rattle.terms.specs.Ideal.{FirstFailure}
 use Rattle.terms.specs.Order.{Precedes, precedesTest, ascendingTest}
 use Rattle.terms.specs.Rows.{rows, padded}
-use Rattle.terms.specs.Refusals.{Check, refusal, NotOneToSix, check, tableChecks, tests-notOneToSix, tests-noMultiple, tests-tooManyRows, tests-entryAbove50}
+use Rattle.terms.specs.Refusals.{Check, refusal, NotOneToSix, check, tableChecks}
+use Rattle.terms.specs.Refusals.{tests-notOneToSix, tests-noMultiple, tests-tooManyRows, tests-entryAbove50}
 use Rattle.terms.proofs.MonomialLaws.{beyond, same-all}
-use Rattle.terms.proofs.OrderLaws.{tests-precedes, tests-ascending}
+use Rattle.terms.proofs.OrderLaws.{precedes-irreflexive, precedes-trans, tests-precedes, tests-ascending}
 use Rattle.terms.proofs.RowsLaws.{length-rows, rows-at, row-size}
-use Rattle.terms.proofs.RefusalLaws.{refusal-holds, refusal-passes}
+use Rattle.terms.proofs.RefusalLaws.{refusal-none, refusal-holds, refusal-passes}
 
 -- ---- first_failure
 
@@ -49,14 +50,10 @@ never-differs u v n e f b = same-all u v (e ∙ sym f) (λ i. by-cases (decLe i 
 
 -- where v is smaller at the first difference, or there is none, u does not precede v
 pub not-before : (u v : Monomial) (i : ℕ) → ((j : ℕ) → j ≤ i → u ! j ≡ v ! j) → v ! suc i < u ! suc i → Precedes u v → ⊥
-not-before u v i b h p = by-cases (decLe (p .at) i)
-    (λ l. omega (arith, b (p .at) l, p .less))
-    (λ g. by-cases (decLt (suc i) (p .at))
-    (λ l. omega (arith, p .same (suc i) l))
-    (λ f. let e : p .at ≡ suc i = omega arith in omega (arith, subst (λ (k : ℕ). u ! k < v ! k) e (p .less))))
+not-before u v i b h p = precedes-irreflexive u (precedes-trans p (differs-at v u i (λ j l. sym (b j l)) h))
 
 pub not-before-equal : (u v : Monomial) → u ≡ v → Precedes u v → ⊥
-not-before-equal u v e p = omega (arith, ap (λ (w : Monomial). w ! (p .at)) e, p .less)
+not-before-equal u v e p = precedes-irreflexive u (subst (λ (w : Monomial). Precedes u w) (sym e) p)
 
 -- ---- degree_of
 
@@ -106,7 +103,8 @@ filled-row n t k h = rw (row-size n t k h, rows-at n t k h)
 pub breaks : (G : Table) (r : ℕ) → suc r < length G → false ≡ precedesTest (rowAt G r) (rowAt G (suc r)) → false ≡ ascendingTest G
 breaks G r l e = tests-false (tests-ascending G) (λ a. absurd (subst T (sym e) (tests-precedes (rowAt G r) (rowAt G (suc r)) .complete (a r l))))
 
-pub ascends-next : (G : Table) (k : ℕ) → 0 < k → true ≡ precedesTest (rowAt G (k - 1)) (rowAt G (suc (k - 1))) → ((r : ℕ) → suc r < k → Precedes (rowAt G r) (rowAt G (suc r)))
+pub ascends-next : (G : Table) (k : ℕ) → 0 < k → true ≡ precedesTest (rowAt G (k - 1)) (rowAt G (suc (k - 1)))
+    → ((r : ℕ) → suc r < k → Precedes (rowAt G r) (rowAt G (suc r)))
     → (r : ℕ) → suc r < k + 1 → Precedes (rowAt G r) (rowAt G (suc r))
 ascends-next G k p e b r l = by-cases (decLt (suc r) k) (b r) (λ g.
     let x : k - 1 ≡ r = omega arith in
@@ -151,5 +149,6 @@ module _ (n : ℕ) (t : List ℕ) where
         refused-4 h = sym (passed-3 ∙ refusal-holds (check 4 (lit< tt) (tests-entryAbove50 t)) [] (tests-entryAbove50 t .sound (subst T h tt)))
 
         pub passed : false ≡ any (λ e. ltb 50 e) t → 0 ≡ refusal (tableChecks n t)
-        unfolding refusal
-        passed h = sym (passed-3 ∙ refusal-passes (check 4 (lit< tt) (tests-entryAbove50 t)) [] (λ x. subst T (sym h) (tests-entryAbove50 t .complete x)))
+        passed h = sym (passed-3
+            ∙ refusal-passes (check 4 (lit< tt) (tests-entryAbove50 t)) [] (λ x. subst T (sym h) (tests-entryAbove50 t .complete x))
+            ∙ refusal-none)

@@ -32,11 +32,13 @@ use Rattle.terms.specs.Refusals.{Check, refusal, Refuses, Accepts, NoMul
 use Rattle.terms.specs.Refusals.{tests-notOneToSix, tests-noMultiple, tests-tooManyRows, tests-entryAbove50}
 
 -- the first check refuses, or it passes and the others decide
-first-check : (c : Check) (checks : List Check) → (c .Condition × (refusal (c ∷ checks) ≡ c .number)) ⊎ ((c .Condition → ⊥) × (refusal (c ∷ checks) ≡ refusal checks))
+first-check : (c : Check) (checks : List Check)
+    → (c .Condition × (refusal (c ∷ checks) ≡ c .number)) ⊎ ((c .Condition → ⊥) × (refusal (c ∷ checks) ≡ refusal checks))
 unfolding refusal
 first-check c checks = go (c .test) (λ e. true-tests (c .agrees) e) (λ e. false-tests (c .agrees) e)
   where
-    go : (b : Bool) → (b ≡ true → c .Condition) → (b ≡ false → c .Condition → ⊥) → (c .Condition × (pick b (c .number) (refusal checks) ≡ c .number)) ⊎ ((c .Condition → ⊥) × (pick b (c .number) (refusal checks) ≡ refusal checks))
+    go : (b : Bool) → (b ≡ true → c .Condition) → (b ≡ false → c .Condition → ⊥)
+        → (c .Condition × (pick b (c .number) (refusal checks) ≡ c .number)) ⊎ ((c .Condition → ⊥) × (pick b (c .number) (refusal checks) ≡ refusal checks))
     go true s f = inl (s refl, refl)
     go false s f = inr (f refl, refl)
 

@@ -4,7 +4,7 @@
 --   rows-flat, flat-rows, flat-firstRows   rows of bytes that were written from a table, and the bytes again
 --   member-at, member-index   a row by its number, and the number of a row
 --   row-fits               a row below the count lies within the bytes
---   zeros-at               each byte of an array of zeros is 0
+--   zeros-at               of a list of zeros each exponent is 0
 --   padded-at, length-padded   a padded row has the exponents of the row, and six of them
 --   entry-at               an exponent of a row is a byte of the table
 use mathlib.Core.Path.{_≡_, refl, sym, ap, _∙_}
@@ -173,15 +173,34 @@ put-later n k u t h =
     let e : suc k * n ≡ n + k * n = omega arith in
     let f : n + k * n + n ≡ n + (k * n + n) = omega arith in
     let l : length (take n t) ≡ n = length-take-le n t h in
-    rw (e, f, take-add n (k * n) t, append-assoc (take n t) (take (k * n) (drop n t)) (take n u), append-assoc (take n t) (take (k * n) (drop n t) ++ take n u) (drop (n + (k * n + n)) t), drop-at (take n t) (take (k * n) (drop n t) ++ take n u ++ drop (n + (k * n + n)) t) n l, ← drop-drop (k * n + n) n t)
+    let front : List ℕ = take (k * n) (drop n t) in
+    let rest : List ℕ = drop (n + (k * n + n)) t in
+    rw (
+      e,
+      f,
+      take-add n (k * n) t,
+      append-assoc (take n t) front (take n u),
+      append-assoc (take n t) (front ++ take n u) rest,
+      drop-at (take n t) (front ++ take n u ++ rest) n l,
+      ← drop-drop (k * n + n) n t,
+    )
 
 put-keeps : (n k : ℕ) (u t : List ℕ) → n ≤ length t → take n (paste t (suc k * n) u n) ≡ take n t
 put-keeps n k u t h =
     let e : suc k * n ≡ n + k * n = omega arith in
     let l : length (take n t) ≡ n = length-take-le n t h in
-    rw (e, take-add n (k * n) t, append-assoc (take n t) (take (k * n) (drop n t)) (take n u), append-assoc (take n t) (take (k * n) (drop n t) ++ take n u) (drop (n + k * n + n) t), take-at (take n t) (take (k * n) (drop n t) ++ take n u ++ drop (n + k * n + n) t) n l)
+    let front : List ℕ = take (k * n) (drop n t) in
+    let rest : List ℕ = drop (n + k * n + n) t in
+    rw (
+      e,
+      take-add n (k * n) t,
+      append-assoc (take n t) front (take n u),
+      append-assoc (take n t) (front ++ take n u) rest,
+      take-at (take n t) (front ++ take n u ++ rest) n l,
+    )
 
-pub firstRows-put : (n count k : ℕ) (u t : List ℕ) → k < count → count * n ≤ length t → n ≤ length u → firstRows n count (putRow n k u t) ≡ set (firstRows n count t) k (take n u)
+pub firstRows-put : (n count k : ℕ) (u t : List ℕ) → k < count → count * n ≤ length t → n ≤ length u
+    → firstRows n count (putRow n k u t) ≡ set (firstRows n count t) k (take n u)
 unfolding firstRows putRow
 firstRows-put n zero k u t l h z = absurd (not-suc-le-zero l)
 firstRows-put n (suc count) zero u t l h z =
@@ -189,4 +208,5 @@ firstRows-put n (suc count) zero u t l h z =
     let s : length (take n u) ≡ n = length-take-le n u z in
     rw (e, zero-add n, take-at (take n u) (drop n t) n s, drop-at (take n u) (drop n t) n s)
 firstRows-put n (suc count) (suc k) u t l h z =
-    rw (put-keeps n k u t (omega arith), put-later n k u t (omega arith), firstRows-put n count k u (drop n t) (le-of-suc-le-suc l) (omega (arith, length-drop n t)) z)
+    let others = firstRows-put n count k u (drop n t) (le-of-suc-le-suc l) (omega (arith, length-drop n t)) z in
+    rw (put-keeps n k u t (omega arith), put-later n k u t (omega arith), others)

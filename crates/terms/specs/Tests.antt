@@ -233,7 +233,8 @@ module _ {A : Type 0} where
   keep-in f [] x m = absurd (List·Memᴰ·not-nil m)
   keep-in f (y ∷ l) x m = go (f y) (λ t. t) m (keep-in f l x)
     where
-      go : (c : Bool) → (T c → T (f y)) → List·Memᴰ x (pick c (y ∷ keep f l) (keep f l)) → (List·Memᴰ x (keep f l) → List·Memᴰ x l × T (f x)) → List·Memᴰ x (y ∷ l) × T (f x)
+      go : (c : Bool) → (T c → T (f y)) → List·Memᴰ x (pick c (y ∷ keep f l) (keep f l)) → (List·Memᴰ x (keep f l) → List·Memᴰ x l × T (f x))
+          → List·Memᴰ x (y ∷ l) × T (f x)
       go true s k h = ⊎-elim
           (λ e. (List·Memᴰ·head e, subst (λ (z : A). T (f z)) (sym e) (s tt)))
           (λ i. (List·Memᴰ·tail (h i .0), h i .1))

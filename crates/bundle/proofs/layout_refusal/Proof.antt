@@ -35,7 +35,8 @@ tables-refusal-requires c κs = search needs
 returns-2 : tie.Need-returns-2
 returns-2 c =
     let b = c .before .before .before .before .before .before .args .bundle .now in
-    passes-first (frameChecks b) (tablesChecks b 0 (tableCount b) ++ remainChecks b) _ (sym (c .before .before .before .before .frame-refusal .ensures) ∙ c .before .before .before .if1 .left)
+    let passed = sym (c .before .before .before .before .frame-refusal .ensures) ∙ c .before .before .before .if1 .left in
+    passes-first (frameChecks b) (tablesChecks b 0 (tableCount b) ++ remainChecks b) _ passed
     (c .tables-refusal .ensures ∙ rw (c .before .byte-at2 .ensures .0))
 
 pub layout-refusal-spec : {M : Type 1} → statement M

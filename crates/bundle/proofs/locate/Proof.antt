@@ -55,7 +55,8 @@ add-read16-2 c = search needs
 read16-requires-2 : tie.Need-read16-requires-2
 read16-requires-2 c κs =
     let b = c .before .before .before .before .before .before .before .args .bundle .now in
-    let f = accepted-bundle b (sym (c .before .before .before .before .before .bundle-refusal .ensures) ∙ c .before .before .before .before .if1 .left) .layout .frame in
+    let passed = sym (c .before .before .before .before .before .bundle-refusal .ensures) ∙ c .before .before .before .before .if1 .left in
+    let f = accepted-bundle b passed .layout .frame in
     omega (arith, f .header, c .before .before .before .byte-at .ensures .0)
 
 returns-3 : tie.Need-returns-3

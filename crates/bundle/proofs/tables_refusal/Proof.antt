@@ -48,7 +48,8 @@ returns c =
     let a = c .before .before .before .before .before .args in
     let q = c .before .before .before .before .before .pre in
     let l = c .before .before .before .loop in
-    passed-refuses (a .bundle .now) (a .tables) (q .2) (l .place) (l .j) (l .inv) _ (c .before .before .loop-test .taken) (c .before .one-table-refusal .ensures) (c .if1 .taken)
+    passed-refuses (a .bundle .now) (a .tables) (q .2) (l .place) (l .j) (l .inv) _ (c .before .before .loop-test .taken)
+    (c .before .one-table-refusal .ensures) (c .if1 .taken)
 
 mul-read16 : tie.Need-mul-read16 Inv-loop μ-loop
 mul-read16 c =

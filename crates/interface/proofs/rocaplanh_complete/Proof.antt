@@ -20,7 +20,8 @@ cast-count : tie.Need-cast-count
 cast-count c =
     let s = c .before .before .before .before .before .before .before .before .before in
     let r = c .before .before .before .before .before .complete in
-    let p = subst (λ (a : CompleteAnswer). CompletePromise (s .args .n) (s .args .table .now) (s .args .buffer .now) a (r .last .1 .1 .0)) (c .before .answer .given .1) (r .ensures) in
+    let p = subst (λ (a : CompleteAnswer). CompletePromise (s .args .n) (s .args .table .now) (s .args .buffer .now) a (r .last .1 .1 .0))
+    (c .before .answer .given .1) (r .ensures) in
     record { fits = omega (arith, count-small _ _ _ _ _ p) }
 
 enum-known-answer-2 : tie.Need-enum-known-answer-2

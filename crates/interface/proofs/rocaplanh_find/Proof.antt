@@ -29,7 +29,8 @@ cast-steps c =
     let s = c .before .before .before .before .before .before in
     let r = c .before .before .before .find in
     let e = c .before .answer .given .1 in
-    record { fits = omega (arith, sym (ap findSteps e), steps-small _ _ _ _ (λ i. omega (arith, c .before .before .before .before .shared-slice-known2 .given i)) (r .ensures) (ap findNumber e)) }
+    let bytes = c .before .before .before .before .shared-slice-known2 in
+    record { fits = omega (arith, sym (ap findSteps e), steps-small _ _ _ _ (λ i. omega (arith, bytes .given i)) (r .ensures) (ap findNumber e)) }
 
 enum-known-answer-2 : tie.Need-enum-known-answer-2
 enum-known-answer-2 c = search needs
@@ -39,7 +40,8 @@ cast-steps-2 c =
     let s = c .before .before .before .before .before .before in
     let r = c .before .before .before .find in
     let e = c .before .answer2 .given .1 in
-    record { fits = omega (arith, sym (ap findSteps e), steps-small _ _ _ _ (λ i. omega (arith, c .before .before .before .before .shared-slice-known2 .given i)) (r .ensures) (ap findNumber e)) }
+    let bytes = c .before .before .before .before .shared-slice-known2 in
+    record { fits = omega (arith, sym (ap findSteps e), steps-small _ _ _ _ (λ i. omega (arith, bytes .given i)) (r .ensures) (ap findNumber e)) }
 
 enum-known-answer-3 : tie.Need-enum-known-answer-3
 enum-known-answer-3 c = search needs

@@ -39,7 +39,14 @@ put-field-requires-2 c κs =
     let second = third .before .before .before .before in
     let first = second .before .before .before .before in
     let a = first .before .before .before .args in
-    omega (arith, noRoomLine-length (a .j), first .put-byte .ensures .ends, second .put-field .ensures .ends, third .put-byte2 .ensures .ends, fourth .put-byte3 .ensures .ends)
+    omega (
+      arith,
+      noRoomLine-length (a .j),
+      first .put-byte .ensures .ends,
+      second .put-field .ensures .ends,
+      third .put-byte2 .ensures .ends,
+      fourth .put-byte3 .ensures .ends,
+    )
 
 put-byte-requires-4 : tie.Need-put-byte-requires-4
 put-byte-requires-4 c κs =
@@ -49,7 +56,15 @@ put-byte-requires-4 c κs =
     let second = third .before .before .before .before in
     let first = second .before .before .before .before in
     let a = first .before .before .before .args in
-    omega (arith, noRoomLine-length (a .j), first .put-byte .ensures .ends, second .put-field .ensures .ends, third .put-byte2 .ensures .ends, fourth .put-byte3 .ensures .ends, fifth .put-field2 .ensures .ends)
+    omega (
+      arith,
+      noRoomLine-length (a .j),
+      first .put-byte .ensures .ends,
+      second .put-field .ensures .ends,
+      third .put-byte2 .ensures .ends,
+      fourth .put-byte3 .ensures .ends,
+      fifth .put-field2 .ensures .ends,
+    )
 
 same-length : tie.Need-same-length
 same-length c = search needs
@@ -71,4 +86,14 @@ returns c =
     wrote-as upto-sixth (noRoomLine-parts (a .j))
 
 pub put-no-room-line-spec : {M : Type 1} → statement M
-put-no-room-line-spec = tie.close (tie.spec put-byte-requires put-field-requires put-byte-requires-2 put-byte-requires-3 put-field-requires-2 put-byte-requires-4 same-length returns)
+put-no-room-line-spec =
+    tie.close
+    (tie.spec
+    put-byte-requires
+    put-field-requires
+    put-byte-requires-2
+    put-byte-requires-3
+    put-field-requires-2
+    put-byte-requires-4
+    same-length
+    returns)

@@ -31,7 +31,13 @@ put-byte-requires-2 c κs =
     let second = third .before .before .before .before in
     let first = second .before .before .before .before in
     let a = first .before .before .before .args in
-    omega (arith, rowLine-length (take (a .u .n) (a .u .exponents)) (a .marks), first .put-exponents .ensures .ends, second .put-byte .ensures .ends, third .put-field .ensures .ends)
+    omega (
+      arith,
+      rowLine-length (take (a .u .n) (a .u .exponents)) (a .marks),
+      first .put-exponents .ensures .ends,
+      second .put-byte .ensures .ends,
+      third .put-field .ensures .ends,
+    )
 
 same-length : tie.Need-same-length
 same-length c = search needs

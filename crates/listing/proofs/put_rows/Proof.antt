@@ -45,7 +45,8 @@ put-row-line-requires c κs =
     let u = rowAt H (l .k) in
     let e = c .before .before .row-at .ensures in
     let within : l .k < length H = omega (arith, length-rows (a .n) (a .table .now)) in
-    let text = ap (λ (w : Monomial). length (rowLine w (getD (a .marks .now) (l .k) 0))) (row-read (a .n) u e (row-size (a .n) (a .table .now) (l .k) within)) in
+    let read = row-read (a .n) u e (row-size (a .n) (a .table .now) (l .k) within) in
+    let text = ap (λ (w : Monomial). length (rowLine w (getD (a .marks .now) (l .k) 0))) read in
     (omega (arith, row-variables (a .n) u e), omega (arith, text, l .inv .2 .ends, l .inv .1, rowLines-fits H (a .marks .now) (l .k) (length H) within))
 
 add-k : tie.Need-add-k Inv-loop μ-loop

@@ -73,7 +73,8 @@ returns c =
     let made = c .before .before .before .before .before .before in
     let answer = made .before .before .before in
     let start = answer .before .before .before .before in
-    wrote-as (c .before .before .put-completed .ensures) (made-text (start .args .j) (made-rows (start .pre .0) (answer .complete .ensures) (made .count .given .1)))
+    wrote-as (c .before .before .put-completed .ensures)
+    (made-text (start .args .j) (made-rows (start .pre .0) (answer .complete .ensures) (made .count .given .1)))
 
 same-length-2 : tie.Need-same-length-2
 same-length-2 c = search needs

@@ -30,7 +30,13 @@ put-field-requires-3 c κs =
     let second = third .before .before .before .before in
     let first = second .before .before .before .before in
     let a = first .before .before .before .args in
-    omega (arith, tableLine-length (a .j) (a .given) (a .made), first .put-byte .ensures .ends, second .put-field .ensures .ends, third .put-field2 .ensures .ends)
+    omega (
+      arith,
+      tableLine-length (a .j) (a .given) (a .made),
+      first .put-byte .ensures .ends,
+      second .put-field .ensures .ends,
+      third .put-field2 .ensures .ends,
+    )
 
 put-byte-requires-2 : tie.Need-put-byte-requires-2
 put-byte-requires-2 c κs =
@@ -39,7 +45,14 @@ put-byte-requires-2 c κs =
     let second = third .before .before .before .before in
     let first = second .before .before .before .before in
     let a = first .before .before .before .args in
-    omega (arith, tableLine-length (a .j) (a .given) (a .made), first .put-byte .ensures .ends, second .put-field .ensures .ends, third .put-field2 .ensures .ends, fourth .put-field3 .ensures .ends)
+    omega (
+      arith,
+      tableLine-length (a .j) (a .given) (a .made),
+      first .put-byte .ensures .ends,
+      second .put-field .ensures .ends,
+      third .put-field2 .ensures .ends,
+      fourth .put-field3 .ensures .ends,
+    )
 
 same-length : tie.Need-same-length
 same-length c = search needs
@@ -59,4 +72,13 @@ returns c =
     wrote-as upto-fifth (tableLine-parts (a .j) (a .given) (a .made))
 
 pub put-table-line-spec : {M : Type 1} → statement M
-put-table-line-spec = tie.close (tie.spec put-byte-requires put-field-requires put-field-requires-2 put-field-requires-3 put-byte-requires-2 same-length returns)
+put-table-line-spec =
+    tie.close
+    (tie.spec
+    put-byte-requires
+    put-field-requires
+    put-field-requires-2
+    put-field-requires-3
+    put-byte-requires-2
+    same-length
+    returns)

@@ -43,7 +43,8 @@ put-steady-line-requires c κs =
     let first = second .before .before .before .before in
     let a = first .before .before .before .before .before .before .args in
     let H = rows (a .n) (a .table .now) in
-    let lengths = wholeText-sum (a .j) H (a .marks .now) (length-rows (a .n) (a .given .now)) (length-rows (a .n) (a .table .now)) (c .before .steady-sum .ensures) in
+    let lengths = wholeText-sum (a .j) H (a .marks .now)
+    (length-rows (a .n) (a .given .now)) (length-rows (a .n) (a .table .now)) (c .before .steady-sum .ensures) in
     omega (arith, lengths, first .put-table-line .ensures .ends, second .put-rows .ensures .ends)
 
 same-length : tie.Need-same-length

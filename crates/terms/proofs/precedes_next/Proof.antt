@@ -99,7 +99,9 @@ returns-3 c =
     let l = c .before .loop in
     let u = rowAt (rows (a .n) (a .table .now)) (a .k .0) in
     let v = rowAt (rows (a .n) (a .table .now)) (suc (a .k .0)) in
-    let same = never-differs u v (a .n) (row-size (a .n) (a .table .now) (a .k .0) (omega arith)) (row-size (a .n) (a .table .now) (suc (a .k .0)) (s .pre)) (λ j h. l .inv .1 j (omega arith)) in
+    let size-u = row-size (a .n) (a .table .now) (a .k .0) (omega arith) in
+    let size-v = row-size (a .n) (a .table .now) (suc (a .k .0)) (s .pre) in
+    let same = never-differs u v (a .n) size-u size-v (λ j h. l .inv .1 j (omega arith)) in
     tests-false (tests-precedes u v) (not-before-equal u v same)
 
 pub precedes-next-spec : {M : Type 1} → statement M

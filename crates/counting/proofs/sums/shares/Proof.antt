@@ -1,18 +1,17 @@
 -- `counting::sums::shares` meets its contract. The invariant: the sum so far and the shares of the rows from k on make the whole, and no
 -- share exceeds the largest binomial, so 4,096 of them fit; what is known is right. The measure is what is left of the rows.
 use mathlib.Core.Path.{_≡_, ap, _∙_}
-use Prim.Native.Nat.{ℕ, _+_, _*_, _-_, _≤_, _<_}
+use Prim.Native.Nat.{ℕ, _+_, _*_, _-_, _≤_}
 use native.Mathlib.Omega.{arith}
 use borrow.Author.Needs.{needs}
 use lib.Count.{ones}
-use lib.ListN.{length, drop, getD}
+use lib.ListN.{drop, getD}
 use Rattle.terms.specs.Monomials.{rowAt, degree}
 use Rattle.terms.specs.Rows.{rows}
 use Rattle.terms.proofs.RowsLaws.{length-rows}
-use Rattle.terms.proofs.RefusalLaws.{degree-small}
 use Rattle.counting.specs.Counts.{share}
 use Rattle.counting.specs.Sums.{sharesOf, Known}
-use Rattle.counting.proofs.PassLaws.{known-none, share-small, marks-few, shares-next, shares-done}
+use Rattle.counting.proofs.PassLaws.{SummedRow, summed-row, known-none, share-small, shares-next, shares-done}
 use Rattle.counting.proofs.sums.shares.Statement.{statement}
 use Rattle.counting.proofs.sums.shares.Tie as tie
 
@@ -32,45 +31,39 @@ div-count c = search needs
 loop-holds : tie.Need-loop-holds Inv-loop μ-loop
 loop-holds c = (omega arith, omega arith, omega arith, known-none _)
 
--- in the loop row k is one of the table's, and its byte has at most six marks
-in-table : (c : tie.In-loop Inv-loop μ-loop)
-    → c .before .loop .k < length (rows (c .before .before .before .before .args .n) (c .before .before .before .before .args .table .now))
-in-table c = let a = c .before .before .before .before .args in omega (arith, length-rows (a .n) (a .table .now))
-
-few : (c : tie.In-loop Inv-loop μ-loop) → ones (getD (c .before .before .before .before .args .marks .now) (c .before .loop .k) 0) ≤ 6
-few c = marks-few _ (c .before .before .before .before .pre .few (c .before .loop .k) (in-table c))
+-- what is known of row k
+row : (c : tie.In-loop Inv-loop μ-loop) → let a = c .before .before .before .before .args in
+    SummedRow (a .n) (a .table .now) (a .marks .now) (c .before .loop .k)
+row c = summed-row _ _ _ _ _ (c .before .before .before .before .pre) (omega arith)
 
 shared-slice-read-m : tie.Need-shared-slice-read-m Inv-loop μ-loop
-shared-slice-read-m c = omega (arith, in-table (c .before), c .before .before .before .before .before .pre .marked)
+shared-slice-read-m c = omega (arith, row (c .before) .byte)
 
 cast-m : tie.Need-cast-m Inv-loop μ-loop
-cast-m c = omega (arith, few (c .before))
+cast-m c = omega (arith, row (c .before) .few)
 
 row-degree-requires : tie.Need-row-degree-requires Inv-loop μ-loop
-row-degree-requires c κs = (c .before .before .before .before .before .before .pre .accepted .few, in-table (c .before .before))
+row-degree-requires c κs = (c .before .before .before .before .before .before .pre .accepted .few, row (c .before .before) .within)
 
 share-requires : tie.Need-share-requires Inv-loop μ-loop
 share-requires c κs =
     let start = c .before .before .before .before .before .before .before in
     let loop = c .before .before .before .before .loop in
-    let small = degree-small (start .args .n) (start .args .table .now) (start .pre .accepted) (loop .k) (in-table (c .before .before .before)) in
-    (loop .inv .3, start .pre .low, omega (arith, c .row-degree .ensures), few (c .before .before .before))
+    let own = row (c .before .before .before) in
+    (loop .inv .3, start .pre .low, omega (arith, c .row-degree .ensures, own .small), own .few)
 
--- the share of row k is small, and the row one of at most 4,096
+-- the share of row k is small
 small : (c : tie.After-share Inv-loop μ-loop) → c .share .result ≤ 1085371516236
 small c =
     let start = c .before .before .before .before .before .before .before .before in
     let d = c .before .row-degree .result .0 in
-    omega (arith, c .share .ensures .0, share-small (start .args .s .0) d _ (start .pre .low) (few (c .before .before .before .before)))
-
-counted : (c : tie.In-loop Inv-loop μ-loop) → c .before .loop .k < 4096
-counted c = omega (arith, in-table c, c .before .before .before .before .pre .accepted .limited)
+    omega (arith, c .share .ensures .0, share-small (start .args .s .0) d _ (start .pre .low) (row (c .before .before .before .before) .few))
 
 add-sum : tie.Need-add-sum Inv-loop μ-loop
-add-sum c = omega (arith, small c, counted (c .before .before .before .before))
+add-sum c = omega (arith, small c, row (c .before .before .before .before) .counted)
 
 add-k : tie.Need-add-k Inv-loop μ-loop
-add-k c = omega (arith, counted (c .before .before .before .before))
+add-k c = omega (arith, row (c .before .before .before .before) .counted)
 
 loop-less : tie.Need-loop-less Inv-loop μ-loop
 loop-less c = search needs
@@ -82,10 +75,10 @@ loop-again c =
     let marks = start .args .marks .now in
     let s = start .args .s .0 in
     let k = c .before .before .before .before .before .loop .k in
-    let l = in-table (c .before .before .before .before) in
+    let own = row (c .before .before .before .before) in
     let e : c .share .result ≡ share s (degree (rowAt G k)) (ones (getD marks k 0)) =
     c .share .ensures .0 ∙ ap (λ (d : ℕ). share s d (ones (getD marks k 0))) (c .before .row-degree .ensures) in
-    (omega arith, omega (arith, shares-next s G marks k l (omega (arith, start .pre .marked))), omega (arith, small c), c .share .ensures .1)
+    (omega arith, omega (arith, shares-next s G marks k (own .within) (own .byte)), omega (arith, small c), c .share .ensures .1)
 
 returns : tie.Need-returns Inv-loop μ-loop
 returns c =

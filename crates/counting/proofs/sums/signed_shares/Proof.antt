@@ -2,7 +2,7 @@
 -- the shares of the rows from k on, make the whole; neither part exceeds k times the largest binomial; what is
 -- known is right.
 use mathlib.Core.Path.{_≡_, sym, ap, _∙_}
-use Prim.Native.Nat.{ℕ, _*_, _-_, _≤_, _<_}
+use Prim.Native.Nat.{ℕ, _*_, _-_, _≤_}
 use native.Mathlib.Omega.{arith}
 use borrow.Author.Needs.{needs}
 use lib.Count.{ones}
@@ -11,10 +11,9 @@ use lib.IntN.{pos, _+ℤ_, _-ℤ_, +ℤ-idl, +ℤ-idr}
 use Rattle.terms.specs.Monomials.{rowAt, degree}
 use Rattle.terms.specs.Rows.{rows}
 use Rattle.terms.proofs.RowsLaws.{length-rows}
-use Rattle.terms.proofs.RefusalLaws.{degree-small}
 use Rattle.counting.specs.Counts.{signedShare}
 use Rattle.counting.specs.Sums.{signedSharesOf, Known}
-use Rattle.counting.proofs.PassLaws.{known-none, marks-few, signed-next, signed-done, splits-add}
+use Rattle.counting.proofs.PassLaws.{SummedRow, summed-row, known-none, signed-next, signed-done, splits-add}
 use Rattle.counting.proofs.sums.signed_shares.Statement.{statement}
 use Rattle.counting.proofs.sums.signed_shares.Tie as tie
 
@@ -35,42 +34,35 @@ div-count c = search needs
 loop-holds : tie.Need-loop-holds Inv-loop μ-loop
 loop-holds c = (omega arith, +ℤ-idl _, omega arith, omega arith, known-none _)
 
--- in the loop row k is one of the table's, and its byte has at most six marks
-in-table : (c : tie.In-loop Inv-loop μ-loop)
-    → c .before .loop .k < length (rows (c .before .before .before .before .args .n) (c .before .before .before .before .args .table .now))
-in-table c = let a = c .before .before .before .before .args in omega (arith, length-rows (a .n) (a .table .now))
-
-few : (c : tie.In-loop Inv-loop μ-loop) → ones (getD (c .before .before .before .before .args .marks .now) (c .before .loop .k) 0) ≤ 6
-few c = marks-few _ (c .before .before .before .before .pre .few (c .before .loop .k) (in-table c))
+-- what is known of row k
+row : (c : tie.In-loop Inv-loop μ-loop) → let a = c .before .before .before .before .args in
+    SummedRow (a .n) (a .table .now) (a .marks .now) (c .before .loop .k)
+row c = summed-row _ _ _ _ _ (c .before .before .before .before .pre) (omega arith)
 
 shared-slice-read-m : tie.Need-shared-slice-read-m Inv-loop μ-loop
-shared-slice-read-m c = omega (arith, in-table (c .before), c .before .before .before .before .before .pre .marked)
+shared-slice-read-m c = omega (arith, row (c .before) .byte)
 
 cast-m : tie.Need-cast-m Inv-loop μ-loop
-cast-m c = omega (arith, few (c .before))
+cast-m c = omega (arith, row (c .before) .few)
 
 row-degree-requires : tie.Need-row-degree-requires Inv-loop μ-loop
-row-degree-requires c κs = (c .before .before .before .before .before .before .pre .accepted .few, in-table (c .before .before))
+row-degree-requires c κs = (c .before .before .before .before .before .before .pre .accepted .few, row (c .before .before) .within)
 
 signed-share-requires : tie.Need-signed-share-requires Inv-loop μ-loop
 signed-share-requires c κs =
     let start = c .before .before .before .before .before .before .before in
     let loop = c .before .before .before .before .loop in
-    let small = degree-small (start .args .n) (start .args .table .now) (start .pre .accepted) (loop .k) (in-table (c .before .before .before)) in
-    (loop .inv .4, start .pre .low, omega (arith, c .row-degree .ensures), few (c .before .before .before))
-
--- the row is one of at most 4,096
-counted : (c : tie.In-loop Inv-loop μ-loop) → c .before .loop .k < 4096
-counted c = omega (arith, in-table c, c .before .before .before .before .pre .accepted .limited)
+    let own = row (c .before .before .before) in
+    (loop .inv .4, start .pre .low, omega (arith, c .row-degree .ensures, own .small), own .few)
 
 add-plus : tie.Need-add-plus Inv-loop μ-loop
-add-plus c = omega (arith, c .before .signed-share .ensures .0 .plus-small, counted (c .before .before .before .before .before))
+add-plus c = omega (arith, c .before .signed-share .ensures .0 .plus-small, row (c .before .before .before .before .before) .counted)
 
 add-minus : tie.Need-add-minus Inv-loop μ-loop
-add-minus c = omega (arith, c .before .before .signed-share .ensures .0 .minus-small, counted (c .before .before .before .before .before .before))
+add-minus c = omega (arith, c .before .before .signed-share .ensures .0 .minus-small, row (c .before .before .before .before .before .before) .counted)
 
 add-k : tie.Need-add-k Inv-loop μ-loop
-add-k c = omega (arith, counted (c .before .before .before .before .before .before))
+add-k c = omega (arith, row (c .before .before .before .before .before .before) .counted)
 
 loop-less : tie.Need-loop-less Inv-loop μ-loop
 loop-less c = search needs
@@ -87,8 +79,8 @@ loop-again c =
     let given = c .before .before .signed-share .ensures .0 in
     let e : pos (one .plus) -ℤ pos (one .minus) ≡ signedShare s (degree (rowAt G k)) (ones (getD marks k 0)) =
     given .difference ∙ ap (λ (d : ℕ). signedShare s d (ones (getD marks k 0))) (c .before .before .before .row-degree .ensures) in
-    let l = in-table (c .before .before .before .before .before .before) in
-    let f = signed-next s G marks k l (omega (arith, start .pre .marked)) in (
+    let own = row (c .before .before .before .before .before .before) in
+    let f = signed-next s G marks k (own .within) (own .byte) in (
       omega arith,
       splits-add (before .plus) (before .minus) (one .plus) (one .minus) _ _ _ (rw f at (before .inv .1)) e,
       omega (arith, given .plus-small),

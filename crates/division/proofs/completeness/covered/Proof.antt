@@ -1,14 +1,12 @@
 -- The first n of the six bytes, with one of them raised, are the row times the variable; the descent finds a row exactly where that has a Janet divisor.
 use native.Mathlib.Omega.{arith}
-use mathlib.Core.Path.{_≡_, sym, ap, _∙_}
+use mathlib.Core.Path.{_≡_, sym}
 use Prim.Native.Nat.{_+_, _-_, _≤_}
-use lib.ListN.{length, take, getD, set, length-set}
+use lib.ListN.{length, getD, length-set}
 use denote.Ref.{now}
 use borrow.Author.Needs.{needs}
-use Rattle.terms.specs.Rows.{rows}
-use Rattle.division.specs.Janet.{coveredTest}
 use Rattle.division.proofs.SteppingLaws.{read-at}
-use Rattle.division.proofs.CompleteLaws.{product-length, product-times, covered-row, covered-nothing}
+use Rattle.division.proofs.CompleteLaws.{product-length, product-row, product-nothing}
 use Rattle.division.proofs.completeness.covered.Statement.{statement}
 use Rattle.division.proofs.completeness.covered.Tie as tie
 
@@ -57,24 +55,18 @@ returns c =
     let s = c .before .before .before .before .before .before in
     let a = s .args in
     let six : length (a .row .exponents) ≡ 6 = search needs in
-    let fits : a .n ≤ length (a .row .exponents) = omega (arith, s .pre .0 .few) in
-    let q = take (a .n) (set (a .row .exponents) (a .i .0 - 1) (getD (a .row .exponents) (a .i .0 - 1) 0 + 1)) in
-    let e : length q ≡ a .n = product-length (a .row .exponents) (a .n) fits (a .i .0 - 1) (getD (a .row .exponents) (a .i .0 - 1) 0 + 1) in
     let d = c .before .before .descend-table in
-    covered-row (a .n) (a .table .now) q e (d .result) (d .ensures) _ (c .enum-told .given .1)
-    ∙ ap (coveredTest (rows (a .n) (a .table .now))) (product-times (a .row .exponents) (a .n) fits (a .i .0) (s .pre .1) (s .pre .2))
+    product-row (a .n) (a .table .now) (a .row .exponents) (omega (arith, s .pre .0 .few)) (a .i .0) (s .pre .1) (s .pre .2)
+    (d .result) (d .ensures) _ (c .enum-told .given .1)
 
 returns-2 : tie.Need-returns-2
 returns-2 c =
     let s = c .before .before .before .before .before .before in
     let a = s .args in
     let six : length (a .row .exponents) ≡ 6 = search needs in
-    let fits : a .n ≤ length (a .row .exponents) = omega (arith, s .pre .0 .few) in
-    let q = take (a .n) (set (a .row .exponents) (a .i .0 - 1) (getD (a .row .exponents) (a .i .0 - 1) 0 + 1)) in
-    let e : length q ≡ a .n = product-length (a .row .exponents) (a .n) fits (a .i .0 - 1) (getD (a .row .exponents) (a .i .0 - 1) 0 + 1) in
     let d = c .before .before .descend-table in
-    covered-nothing (a .n) (a .table .now) q e (d .result) (d .ensures) (c .enum-told2 .given .1)
-    ∙ ap (coveredTest (rows (a .n) (a .table .now))) (product-times (a .row .exponents) (a .n) fits (a .i .0) (s .pre .1) (s .pre .2))
+    product-nothing (a .n) (a .table .now) (a .row .exponents) (omega (arith, s .pre .0 .few)) (a .i .0) (s .pre .1) (s .pre .2)
+    (d .result) (d .ensures) (c .enum-told2 .given .1)
 
 pub covered-spec : {M : Type 1} → statement M
 covered-spec =

@@ -21,7 +21,8 @@ returns : tie.Need-returns
 returns c =
     let a = c .before .before .before .before .args in
     let e = c .before .inside-refusal .ensures in
-    subst (λ (m : ℕ). InsidePromise (a .n) (a .table .now) (a .query .now) (Refused m)) (sym e) (inside-refuses (a .n) (a .table .now) (a .query .now) (omega (arith, e, c .if1 .taken)))
+    subst (λ (m : ℕ). InsidePromise (a .n) (a .table .now) (a .query .now) (Refused m)) (sym e)
+    (inside-refuses (a .n) (a .table .now) (a .query .now) (omega (arith, e, c .if1 .taken)))
 
 row-at-requires : tie.Need-row-at-requires
 row-at-requires c κs =
@@ -47,7 +48,8 @@ returns-2 c =
     let a = c .before .before .before .before .before .before .before .before .before .args in
     let e = sym (c .before .before .before .before .before .before .inside-refusal .ensures) ∙ c .before .before .before .before .before .if1 .left in
     let d = c .before .before .before .first-divisor in
-    let q = d .ensures ∙ ap (λ (r : Row). foundRow (firstDivisor (rows (a .n) (a .table .now)) (r .exponents))) (c .before .before .before .before .row-at .ensures) in
+    let read = c .before .before .before .before .row-at in
+    let q = d .ensures ∙ ap (λ (r : Row). foundRow (firstDivisor (rows (a .n) (a .table .now)) (r .exponents))) (read .ensures) in
     inside-row (a .n) (a .table .now) (a .query .now) e (d .result) q _ (c .before .found .given .1)
 
 returns-3 : tie.Need-returns-3

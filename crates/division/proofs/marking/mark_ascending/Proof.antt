@@ -58,7 +58,9 @@ loop-holds c =
     let t = length-tableMarks (a .n) G in
     let k = length (a .table .now) / a .n - 1 in
     let m : c .marks-last .result ≡ marksOf (a .n) G (rowAt G k) = omega (arith, c .marks-last .ensures, marks-last (a .n) G (s .pre .1) k (omega arith)) in
-    (omega arith, m, from-last (a .buffer .now) (tableMarks (a .n) G) k (length (a .table .now) / a .n) (c .marks-last .result) (omega arith) (omega arith) (omega arith) (m ∙ sym (tableMarks-at (a .n) G k (omega arith))))
+    let byte = m ∙ sym (tableMarks-at (a .n) G k (omega arith)) in
+    let count = length (a .table .now) / a .n in
+    (omega arith, m, from-last (a .buffer .now) (tableMarks (a .n) G) k count (c .marks-last .result) (omega arith) (omega arith) (omega arith) byte)
 
 sub-k-2 : tie.Need-sub-k-2 Inv-loop μ-loop
 sub-k-2 c = search needs
@@ -73,7 +75,8 @@ marks-before-requires c κs =
     let l = c .before .loop in
     let k : l .k ≡ suc (l .k - 1) = omega arith in
     let p = s .pre .0 in
-    (record { some = p .some; few = p .few; limited = p .limited; ascends = s .pre .1 }, omega arith, l .inv .1 ∙ ap (λ (x : ℕ). marksOf (a .n) G (rowAt G x)) k)
+    let same = l .inv .1 ∙ ap (λ (x : ℕ). marksOf (a .n) G (rowAt G x)) k in
+    (record { some = p .some; few = p .few; limited = p .limited; ascends = s .pre .1 }, omega arith, same)
 
 slice-write-buffer-2 : tie.Need-slice-write-buffer-2 Inv-loop μ-loop
 slice-write-buffer-2 c =
@@ -101,7 +104,10 @@ loop-again c =
     let b = set (a .buffer .now) (length (a .table .now) / a .n - 1) (c .before .before .before .marks-last .result) in
     let h = length-set (a .buffer .now) (length (a .table .now) / a .n - 1) (c .before .before .before .marks-last .result) in
     let m = c .marks-before .ensures in
-    (omega arith, m, rw (l .inv .2) (from-step b (tableMarks (a .n) G) (l .k) (length (a .table .now) / a .n) (c .marks-before .result) (omega arith) (omega arith) (omega arith) (omega arith) (m ∙ sym (tableMarks-at (a .n) G (l .k - 1) (omega arith)))))
+    let byte = m ∙ sym (tableMarks-at (a .n) G (l .k - 1) (omega arith)) in
+    let count = length (a .table .now) / a .n in
+    let marks = tableMarks (a .n) G in
+    (omega arith, m, rw (l .inv .2) (from-step b marks (l .k) count (c .marks-before .result) (omega arith) (omega arith) (omega arith) (omega arith) byte))
 
 same-length : tie.Need-same-length Inv-loop μ-loop
 same-length c =
@@ -124,7 +130,9 @@ returns-2 c =
     let t = length-tableMarks (a .n) G in
     let l = c .before .loop in
     let k = length (a .table .now) / a .n - 1 in
-    l .inv .2 ∙ from-all (a .buffer .now) (tableMarks (a .n) G) (l .k) k (length (a .table .now) / a .n) (length G) (c .before .before .marks-last .result) (omega arith) (omega arith) z
+    let count = length (a .table .now) / a .n in
+    let last = c .before .before .marks-last .result in
+    l .inv .2 ∙ from-all (a .buffer .now) (tableMarks (a .n) G) (l .k) k count (length G) last (omega arith) (omega arith) z
 
 pub mark-ascending-spec : {M : Type 1} → statement M
 mark-ascending-spec =

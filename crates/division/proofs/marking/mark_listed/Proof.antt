@@ -71,7 +71,8 @@ loop-holds c =
     let z = length-rows (a .n) (a .table .now) in
     let k = length (a .table .now) / a .n - 1 in
     let m = last-listed (a .n) G (a .order .now) (s .pre .2) k (c .before .marks-last .result) (omega arith) (c .before .marks-last .ensures) in
-    (omega arith, refl, m, written-last (a .n) G (a .order .now) (s .pre .2) (a .buffer .now) k (c .before .marks-last .result) (omega arith) (s .pre .0 .room) m)
+    let last = c .before .marks-last .result in
+    (omega arith, refl, m, written-last (a .n) G (a .order .now) (s .pre .2) (a .buffer .now) k last (omega arith) (s .pre .0 .room) m)
 
 sub-row : tie.Need-sub-row Inv-loop μ-loop
 sub-row c = search needs
@@ -135,7 +136,8 @@ loop-again c =
     let h = length-set (a .buffer .now) (getD (a .order .now) k 0) (c .before .before .before .before .before .marks-last .result) in
     let d = rw (l .inv .1) at (c .marks-by-next .ensures) in
     let m = listed-marks (a .n) G (a .order .now) (s .pre .2) (l .k) (omega arith) (omega arith) (l .marks) (c .marks-by-next .result) (l .inv .2) d in
-    (omega arith, refl, m, written-step (a .n) G (a .order .now) (s .pre .2) (l .k) (omega arith) (omega arith) b (l .buffer) (c .marks-by-next .result) (omega arith) m (l .inv .3))
+    let marks = c .marks-by-next .result in
+    (omega arith, refl, m, written-step (a .n) G (a .order .now) (s .pre .2) (l .k) (omega arith) (omega arith) b (l .buffer) marks (omega arith) m (l .inv .3))
 
 same-length : tie.Need-same-length Inv-loop μ-loop
 same-length c =
@@ -157,7 +159,10 @@ returns-2 c =
     let z = length-rows (a .n) (a .table .now) in
     let l = c .before .loop in
     let k = length (a .table .now) / a .n - 1 in
-    written-all (a .n) G (a .order .now) (s .pre .2) (a .buffer .now) (l .buffer) (l .k) (getD (a .order .now) k 0) (c .before .before .before .marks-last .result) (omega arith) (s .pre .2 .numbers k (omega arith)) (s .pre .0 .room) (l .inv .3)
+    let last = c .before .before .before .marks-last .result in
+    let row = getD (a .order .now) k 0 in
+    let in-table = s .pre .2 .numbers k (omega arith) in
+    written-all (a .n) G (a .order .now) (s .pre .2) (a .buffer .now) (l .buffer) (l .k) row last (omega arith) in-table (s .pre .0 .room) (l .inv .3)
 
 pub mark-listed-spec : {M : Type 1} → statement M
 mark-listed-spec =

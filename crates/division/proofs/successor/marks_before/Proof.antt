@@ -18,13 +18,15 @@ marks-by-next-requires : tie.Need-marks-by-next-requires
 marks-by-next-requires c κs =
     let s = c .before .before in
     let a = s .args in
-    (s .pre .0 .few, c .marks-last .ensures, omega arith, omega arith, rw add-one (successor-after (a .n) (rows (a .n) (a .table .now)) (s .pre .0 .ascends) (a .k .0) (s .pre .1)))
+    let after = successor-after (a .n) (rows (a .n) (a .table .now)) (s .pre .0 .ascends) (a .k .0) (s .pre .1) in
+    (s .pre .0 .few, c .marks-last .ensures, omega arith, omega arith, rw add-one after)
 
 returns : tie.Need-returns
 returns c =
     let s = c .before .before .before in
     let a = s .args in
-    successor-marks (a .n) (rows (a .n) (a .table .now)) (s .pre .0 .ascends) (a .k .0) (s .pre .1) (a .next) (c .marks-by-next .result) (s .pre .2) (rw add-one at (c .marks-by-next .ensures))
+    successor-marks (a .n) (rows (a .n) (a .table .now)) (s .pre .0 .ascends) (a .k .0) (s .pre .1) (a .next)
+    (c .marks-by-next .result) (s .pre .2) (rw add-one at (c .marks-by-next .ensures))
 
 pub marks-before-spec : {M : Type 1} → statement M
 marks-before-spec = tie.close (tie.spec marks-last-requires add-t7 marks-by-next-requires returns)

@@ -131,7 +131,9 @@ returns-2 c =
     let l = c .before .loop in
     let u = rowAt (rows (a .n) (a .table .now)) (a .k .0) in
     let v = rowAt (rows (a .n) (a .table .now)) (a .next .0) in
-    inl (never-differs u v (a .n) (row-size (a .n) (a .table .now) (a .k .0) (s .pre .2)) (row-size (a .n) (a .table .now) (a .next .0) (s .pre .3)) (λ j h. l .inv .2 j (omega arith)), refl)
+    let size-u = row-size (a .n) (a .table .now) (a .k .0) (s .pre .2) in
+    let size-v = row-size (a .n) (a .table .now) (a .next .0) (s .pre .3) in
+    inl (never-differs u v (a .n) size-u size-v (λ j h. l .inv .2 j (omega arith)), refl)
 
 pub marks-by-next-spec : {M : Type 1} → statement M
 marks-by-next-spec =

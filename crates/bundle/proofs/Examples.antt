@@ -1,4 +1,5 @@
--- Bundles by example: the paper's ten bytes, and for each refusal a bundle that meets it, also where a later check would refuse too.
+-- Bundles by example: the paper's ten bytes, and for each refusal a bundle that meets it, also where a later check would refuse too. Each line
+-- computes the number by which a bundle is refused, `answer`, or what is read of one that is accepted.
 use mathlib.Core.Path.{_≡_, refl}
 use mathlib.Core.List.{List, [], _∷_}
 use Prim.Native.Nat.{ℕ}

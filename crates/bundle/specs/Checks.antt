@@ -10,17 +10,20 @@
 --   tableChecksOf b j   the checks of one table: 3, 10, 11
 --   tablesChecks b j m  those of the tables j to j + m − 1, table by table
 --   frameChecks b       9 and 1
+--   remainChecks b      11: bytes remaining
 --   layoutChecks b      9, 1, the checks of each table, and bytes remaining
+--   entryChecks b       4, over all bodies
 --   bundleChecks b      all that do not depend on the table asked for: the layout, then 4 over all bodies
+--   numberChecks b j    5
 --   openChecks b j      the checks of `open table j`: those of the bundle, then 5
 --
--- A check over whole bodies that is to come after 4 is one more element at the end of `bundleChecks`.
+-- Each condition stands with its test, `tests-..`.
 use mathlib.Core.Path.{_≡_}
 use mathlib.Core.Bool.{Bool, not, _&&_, _||_}
 use mathlib.Core.List.{List, [], _∷_, _++_}
 use mathlib.Core.Logic.{_⊎_}
 use Prim.Native.Nat.{ℕ, zero, suc, _+_, _≤_, _<_}
-use lib.Dec.{leb, ltb, lit<}
+use lib.Dec.{leb, ltb, eqb, lit<}
 use lib.ListN.{length}
 use Rattle.terms.specs.Tests.{Tests, any, tests-le, tests-lt, tests-eq, tests-and, tests-or, tests-not}
 use Rattle.terms.specs.Refusals.{Check, check, EntryAbove50, tests-entryAbove50, tests-notOneToSix}
@@ -61,6 +64,21 @@ tests-noFrame b = tests-or (tests-lt (length b) 2)
     (tests-or (tests-not (tests-and (tests-lt 0 (tableCount b)) (λ p. tests-le (tableCount b) 16)))
     (tests-lt (length b) (headerLength b))))
 
+pub tests-tooManyRowsIn : (b : List ℕ) (j : ℕ) → Tests (ltb 4096 (rowCount b j)) (TooManyRowsIn b j)
+tests-tooManyRowsIn b j = tests-lt 4096 (rowCount b j)
+
+pub tests-wrongOffset : (b : List ℕ) (j : ℕ) → Tests (not (eqb (offsetOf b j) (placeOf b j))) (WrongOffset b j)
+tests-wrongOffset b j = tests-not (tests-eq (offsetOf b j) (placeOf b j))
+
+pub tests-passesEnd : (b : List ℕ) (j : ℕ) → Tests (ltb (length b) (placeOf b j + bodyLength b j)) (PassesEnd b j)
+tests-passesEnd b j = tests-lt (length b) (placeOf b j + bodyLength b j)
+
+pub tests-bytesRemain : (b : List ℕ) → Tests (ltb (placeOf b (tableCount b)) (length b)) (BytesRemain b)
+tests-bytesRemain b = tests-lt (placeOf b (tableCount b)) (length b)
+
+pub tests-noSuchTable : (b : List ℕ) (j : ℕ) → Tests (leb (tableCount b) j) (NoSuchTable b j)
+tests-noSuchTable b j = tests-le (tableCount b) j
+
 abbrev pub largeEntryTest : List ℕ → Bool
 largeEntryTest b = someBelow (tableCount b) (λ j. any (λ e. ltb 50 e) (bodyOf b j))
 
@@ -74,9 +92,9 @@ frameChecks b = check 9 (lit< tt) (tests-noFrame b) ∷ check 1 (lit< tt) (tests
 
 abbrev pub tableChecksOf : List ℕ → ℕ → List Check
 tableChecksOf b j =
-    check 3 (lit< tt) (tests-lt 4096 (rowCount b j))
-    ∷ check 10 (lit< tt) (tests-not (tests-eq (offsetOf b j) (placeOf b j)))
-    ∷ check 11 (lit< tt) (tests-lt (length b) (placeOf b j + bodyLength b j))
+    check 3 (lit< tt) (tests-tooManyRowsIn b j)
+    ∷ check 10 (lit< tt) (tests-wrongOffset b j)
+    ∷ check 11 (lit< tt) (tests-passesEnd b j)
     ∷ []
 
 unfoldable pub tablesChecks : List ℕ → ℕ → ℕ → List Check
@@ -84,7 +102,7 @@ tablesChecks b j zero = []
 tablesChecks b j (suc m) = tableChecksOf b j ++ tablesChecks b (suc j) m
 
 abbrev pub remainChecks : List ℕ → List Check
-remainChecks b = check 11 (lit< tt) (tests-lt (placeOf b (tableCount b)) (length b)) ∷ []
+remainChecks b = check 11 (lit< tt) (tests-bytesRemain b) ∷ []
 
 abbrev pub entryChecks : List ℕ → List Check
 entryChecks b = check 4 (lit< tt) (tests-largeEntry b) ∷ []
@@ -96,7 +114,7 @@ abbrev pub bundleChecks : List ℕ → List Check
 bundleChecks b = layoutChecks b ++ entryChecks b
 
 abbrev pub numberChecks : List ℕ → ℕ → List Check
-numberChecks b j = check 5 (lit< tt) (tests-le (tableCount b) j) ∷ []
+numberChecks b j = check 5 (lit< tt) (tests-noSuchTable b j) ∷ []
 
 abbrev pub openChecks : List ℕ → ℕ → List Check
 openChecks b j = bundleChecks b ++ numberChecks b j

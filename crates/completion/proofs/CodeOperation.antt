@@ -15,7 +15,8 @@ use Rattle.terms.specs.Monomials.{Table}
 use Rattle.terms.specs.Rows.{firstRows, rows, flat}
 use Rattle.terms.specs.Refusals.{Accepts, refusal, tableChecks}
 use Rattle.terms.proofs.RowsLaws.{rows-size, length-rows}
-use Rattle.terms.proofs.RefusalLaws.{accepted, table-accepted, TableAccepted, refusal-first}
+use Rattle.terms.specs.Refusals.{TableAccepted}
+use Rattle.terms.proofs.RefusalLaws.{accepted, table-accepted, refusal-first}
 use Rattle.completion.specs.Slices.{slices, after, fit}
 use Rattle.completion.specs.Operation.{roomFor, completedOf, roomCheck, completeChecks, CompletePromise}
 use Rattle.completion.specs.declared.CompleteAnswer.the-variants.{Rows, Refused}

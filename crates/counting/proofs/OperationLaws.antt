@@ -16,7 +16,8 @@ use Rattle.terms.specs.Rows.{rows}
 use Rattle.terms.specs.Refusals.{refusal, tableChecks}
 use Rattle.terms.proofs.OrderLaws.{tests-ascending}
 use Rattle.terms.proofs.RefusalLaws.{accepted, refusal-none, refusal-holds, refusal-passes, accepts-head, accepts-tail, rest-passes}
-use Rattle.terms.proofs.RefusalLaws.{TableAccepted, table-listed}
+use Rattle.terms.specs.Refusals.{TableAccepted}
+use Rattle.terms.proofs.RefusalLaws.{table-listed}
 use Rattle.division.proofs.Facade.{NotAscending, orderCheck, Complete, tests-complete, tableMarks, Markable}
 use Rattle.counting.specs.Counts.{countAt, polynomialAt, steadyOf}
 use Rattle.counting.specs.Sums.{Checked, Marked}

@@ -2,6 +2,7 @@
 --
 --   Above300 s              5: s above 300, with its check `degreeCheck`
 --   NotComplete n table     7: the table is not complete, with its check `completeCheck`; 6, `orderCheck`, is that of find
+--   orderChecks n table     6 and 7, with which all three end
 --   countChecks n table s   the checks of count and polynomial, in order: 1 to 4 of the table, 5, 6, 7
 --   steadyChecks n table    the checks of steady: 1 to 4, 6, 7
 --   countNumber, countValue .. the paper's number of an answer, 0 for none, and the value beside it, 0 beside a refusal

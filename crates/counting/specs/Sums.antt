@@ -6,6 +6,7 @@
 --   shareSize s d m  the size of rule 8's share, whatever its sign
 --   Known s known    what stands in `known`: at d * 7 + m that size, or 0
 --   Splits c z plus minus   z is plus less minus, and neither exceeds c times the largest binomial
+--   SplitsAll n table marks s plus minus   the sum over all rows is such a difference
 --   Marked n table marks   byte r has Janet's marks of row r, for each row of the table
 --   Checked n table  what the checks leave: the table's limits, ascending rows, a complete table
 use mathlib.Core.Path.{_≡_}
@@ -21,7 +22,7 @@ use Rattle.terms.specs.Tests.{pick}
 use Rattle.terms.specs.Monomials.{Table, rowAt, degree}
 use Rattle.terms.specs.Order.{Ascending}
 use Rattle.terms.specs.Rows.{rows}
-use Rattle.terms.proofs.RefusalLaws.{TableAccepted}
+use Rattle.terms.specs.Refusals.{TableAccepted}
 use Rattle.division.proofs.Facade.{Complete, marksOf}
 use Rattle.counting.specs.Counts.{share, signedShare}
 

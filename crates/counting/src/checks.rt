@@ -5,7 +5,7 @@ use terms::ascends;
 use terms::table_refusal;
 ghost use mathlib.Core.Path.{_≡_};
 ghost use Rattle.terms.specs.Refusals.{refusal};
-ghost use Rattle.terms.proofs.RefusalLaws.{TableAccepted};
+ghost use Rattle.terms.specs.Refusals.{TableAccepted};
 ghost use Rattle.counting.specs.Operations.{orderChecks, countChecks, steadyChecks};
 
 // The largest degree that is counted.

@@ -15,7 +15,7 @@ unfoldable pub use Rattle.division.specs.Janet.{multiplicativeTest, mark
 pub use Rattle.division.specs.Scan.{Answers, AnswersFirst, FirstDivisor, foundTest}
 unfoldable pub use Rattle.division.specs.Scan.{scan}
 pub use Rattle.division.specs.Descent.{Descent}
-pub use Rattle.division.specs.Operations.{NotAscending, tests-notAscending, orderCheck}
+pub use Rattle.division.specs.Finding.{NotAscending, tests-notAscending, orderCheck}
 pub use Rattle.division.specs.Marking.{Markable}
 unfoldable pub use Rattle.division.specs.Descent.{descent}
 pub use Rattle.division.proofs.JanetLaws.{tests-multiplicative, tests-janet, tests-covered, tests-complete}

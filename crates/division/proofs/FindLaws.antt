@@ -26,8 +26,8 @@ use Rattle.division.specs.Janet.{Multiplicative}
 use Rattle.division.specs.Scan.{Answers}
 use Rattle.division.specs.Descent.{Descent, descent}
 use Rattle.division.specs.Ranges.{Ready, descended}
-use Rattle.division.specs.Operations.{OtherLength, NotAscending, lengthCheck, orderCheck, findChecks, findNumber}
-use Rattle.division.specs.Operations.{findRow, findSteps, findGives, findCase, findAnswer, FindPromise}
+use Rattle.division.specs.Finding.{OtherLength, NotAscending, lengthCheck, orderCheck, findChecks, findNumber}
+use Rattle.division.specs.Finding.{findRow, findSteps, findGives, findCase, findAnswer, FindPromise}
 use Rattle.division.proofs.DescentLaws.{descent-finds, descent-steps}
 use Rattle.division.proofs.RangeLaws.{found-some, found-none}
 use Rattle.division.specs.declared.finding.FindAnswer.{FindAnswer}

@@ -1,7 +1,7 @@
 -- Laws of the operation inside.
 --
 --   first-stops, first-goes-on, first-past   the search for the first row that divides, from a row on
---   divides-first          firstDivisor is the first row number whose row divides the query, none exactly where the query is outside the ideal
+--   divides-first          firstDividing is the first row number whose row divides the query, none exactly where the query is outside the ideal
 --   inside-found           there is one exactly where the query is in the ideal
 --   divides-padded         a query that is filled up to six exponents is divided by the same rows
 --   inside-unique          two answers that the promise allows are equal
@@ -28,11 +28,12 @@ use Rattle.terms.specs.declared.RowNumber.{RowNumber}
 use Rattle.terms.proofs.IdealLaws.{tests-divides, tests-inside}
 use Rattle.terms.proofs.RowsLaws.{length-rows, rows-at, padded-at, member-at, member-index}
 use Rattle.terms.proofs.RefusalLaws.{accepted, refusal-none, refusal-holds, refusal-passes, passes-first}
-use Rattle.terms.proofs.RefusalLaws.{accepts-head, accepts-right, TableAccepted, table-listed}
+use Rattle.terms.specs.Refusals.{TableAccepted}
+use Rattle.terms.proofs.RefusalLaws.{accepts-head, accepts-right, table-listed}
 use Rattle.division.specs.Ranges.{foundRow}
 use Rattle.division.specs.Scan.{foundTest}
-use Rattle.division.specs.Operations.{OtherLength, lengthCheck}
-use Rattle.division.specs.Inside.{firstFrom, firstDivisor, FirstDividing, DividesFirst}
+use Rattle.division.specs.Finding.{OtherLength, lengthCheck}
+use Rattle.division.specs.Inside.{firstFrom, firstDividing, FirstDividing, DividesFirst}
 use Rattle.division.specs.Inside.{insideChecks, insideNumber, insideRow, insideGives, insideCase, insideAnswer, InsidePromise}
 use Rattle.division.specs.declared.inside.InsideAnswer.{InsideAnswer}
 use Rattle.division.specs.declared.inside.InsideAnswer.the-variants.{Row, Nothing, Refused}
@@ -43,8 +44,8 @@ use Rattle.division.proofs.RangeLaws.{found-some, found-none}
 -- ---- the first row that divides
 
 module _ (G : Table) (q : Monomial) where
-  pub first-starts : firstDivisor G q ≡ firstFrom 0 G q
-  unfolding firstDivisor
+  pub first-starts : firstDividing G q ≡ firstFrom 0 G q
+  unfolding firstDividing
   first-starts = refl
 
   pub first-stops : (k : ℕ) → k < length G → true ≡ dividesTest (rowAt G k) q → firstFrom k (drop k G) q ≡ some k
@@ -90,8 +91,8 @@ first-of (u ∷ G) q r = go (dividesTest u q) (tests-divides u q) (firstFrom (su
     go false t o h = later (t .complete) o h
 
 -- the first row number whose row divides q, none exactly where q is outside the ideal
-pub divides-first : (G : Table) (q : Monomial) → DividesFirst G q (firstDivisor G q)
-unfolding firstDivisor
+pub divides-first : (G : Table) (q : Monomial) → DividesFirst G q (firstDividing G q)
+unfolding firstDividing
 divides-first G q = go (firstFrom 0 G q) (first-of G q 0)
   where
     go : (o : Option ℕ) → FirstOf G q 0 o → DividesFirst G q o
@@ -99,14 +100,20 @@ divides-first G q = go (firstFrom 0 G q) (first-of G q 0)
     go (some s) h = let e : h .0 ≡ s = omega (arith, h .1) in subst (λ (i : ℕ). FirstDividing G q i) e (h .2)
 
 -- so there is one exactly where q is in the ideal
-pub inside-found : (G : Table) (q : Monomial) → insideTest G q ≡ foundTest (firstDivisor G q)
-inside-found G q = go (firstDivisor G q) (divides-first G q)
+pub inside-found : (G : Table) (q : Monomial) → insideTest G q ≡ foundTest (firstDividing G q)
+inside-found G q = go (firstDividing G q) (divides-first G q)
   where
     go : (o : Option ℕ) → DividesFirst G q o → insideTest G q ≡ foundTest o
     go none h = sym (tests-false (tests-inside G q) h)
     go (some r) d = sym (tests-true (tests-inside G q) (record { row = rowAt G r; member = member-at G [] r (d .within); divides = d .divides }))
 
 -- ---- the query as a row
+
+-- and so is one that is divided by a row that is filled up
+pub padded-divides : (u q : Monomial) → dividesTest (padded u) q ≡ dividesTest u q
+padded-divides u q = tests-same (dividesTest (padded u) q) (dividesTest u q)
+    (tests-as (tests-divides (padded u) q) (λ d i. omega (arith, d i, padded-at u i)) (λ d i. omega (arith, d i, padded-at u i)))
+    (tests-divides u q)
 
 divides-padded : (u q : Monomial) → dividesTest u (padded q) ≡ dividesTest u q
 divides-padded u q = tests-same (dividesTest u (padded q)) (dividesTest u q)
@@ -145,18 +152,18 @@ case-refused (suc m) o p = refl
 inside-make : {n : ℕ} {table query : List ℕ} {answer : InsideAnswer} → answer ≡ insideAnswer n table query → InsidePromise n table query answer
 unfolding insideAnswer
 inside-make {n} {table} {query} e = record {
-  number = ap insideNumber e ∙ case-number (refusal (insideChecks n table query)) (firstDivisor (rows n table) query);
+  number = ap insideNumber e ∙ case-number (refusal (insideChecks n table query)) (firstDividing (rows n table) query);
   answers = e;
 }
 
 module _ (n : ℕ) (table query : List ℕ) where
-  pub inside-accepts : refusal (insideChecks n table query) ≡ 0 → InsidePromise n table query (insideGives (firstDivisor (rows n table) query))
+  pub inside-accepts : refusal (insideChecks n table query) ≡ 0 → InsidePromise n table query (insideGives (firstDividing (rows n table) query))
   unfolding insideAnswer
-  inside-accepts e = inside-make (ap (λ (m : ℕ). insideCase m (firstDivisor (rows n table) query)) (sym e))
+  inside-accepts e = inside-make (ap (λ (m : ℕ). insideCase m (firstDividing (rows n table) query)) (sym e))
 
   pub inside-refuses : 0 < refusal (insideChecks n table query) → InsidePromise n table query (Refused (refusal (insideChecks n table query)))
   unfolding insideAnswer
-  inside-refuses p = inside-make (sym (case-refused (refusal (insideChecks n table query)) (firstDivisor (rows n table) query) p))
+  inside-refuses p = inside-make (sym (case-refused (refusal (insideChecks n table query)) (firstDividing (rows n table) query) p))
 
   -- ---- the first check that refuses
 
@@ -189,22 +196,22 @@ module _ (n : ℕ) (table query : List ℕ) where
 
     -- ---- the answer from what the code found
 
-    module _ (f : Found) (is : f ≡ foundRow (firstDivisor (rows n table) (asRow n (rowAt (rows n query) 0) .exponents))) where
-      found : f ≡ foundRow (firstDivisor (rows n table) query)
-      unfolding asRow firstDivisor
-      found = is ∙ ap (λ (q : Monomial). foundRow (firstDivisor (rows n table) (padded q))) query-row ∙ ap foundRow (first-padded 0 (rows n table) query)
+    module _ (f : Found) (is : f ≡ foundRow (firstDividing (rows n table) (asRow n (rowAt (rows n query) 0) .exponents))) where
+      found : f ≡ foundRow (firstDividing (rows n table) query)
+      unfolding asRow firstDividing
+      found = is ∙ ap (λ (q : Monomial). foundRow (firstDividing (rows n table) (padded q))) query-row ∙ ap foundRow (first-padded 0 (rows n table) query)
 
-      given : (o : Option ℕ) → firstDivisor (rows n table) query ≡ o → InsidePromise n table query (insideGives o)
+      given : (o : Option ℕ) → firstDividing (rows n table) query ≡ o → InsidePromise n table query (insideGives o)
       given o h = subst (λ (a : InsideAnswer). InsidePromise n table query a) (ap insideGives h) (inside-accepts e)
 
       pub inside-row : (r : RowNumber) → f ≡ Found.Row r → InsidePromise n table query (Row r)
-      inside-row r h = given (some (r .0)) (found-some (firstDivisor (rows n table) query) r (sym found ∙ h))
+      inside-row r h = given (some (r .0)) (found-some (firstDividing (rows n table) query) r (sym found ∙ h))
 
       pub inside-nothing : f ≡ Found.Nothing → InsidePromise n table query Nothing
-      inside-nothing h = given none (found-none (firstDivisor (rows n table) query) (sym found ∙ h))
+      inside-nothing h = given none (found-none (firstDividing (rows n table) query) (sym found ∙ h))
 
     -- ---- what an accepted answer says, in the words of rule 1
 
     pub inside-finds : (answer : InsideAnswer) → InsidePromise n table query answer → DividesFirst (rows n table) query (insideRow answer)
     inside-finds answer p =
-        rw (ap insideRow (inside-unique p (inside-accepts e)) ∙ gives-row (firstDivisor (rows n table) query)) (divides-first (rows n table) query)
+        rw (ap insideRow (inside-unique p (inside-accepts e)) ∙ gives-row (firstDividing (rows n table) query)) (divides-first (rows n table) query)

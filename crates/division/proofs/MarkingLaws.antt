@@ -26,7 +26,8 @@ use Rattle.terms.specs.Rows.{rows}
 use Rattle.terms.specs.Refusals.{refusal, tableChecks}
 use Rattle.terms.proofs.RowsLaws.{member-at, member-index}
 use Rattle.terms.proofs.RefusalLaws.{accepted, refusal-none, refusal-holds, refusal-passes, passes-first}
-use Rattle.terms.proofs.RefusalLaws.{accepts-head, accepts-right, TableAccepted, table-listed}
+use Rattle.terms.specs.Refusals.{TableAccepted}
+use Rattle.terms.proofs.RefusalLaws.{accepts-head, accepts-right, table-listed}
 use Rattle.division.specs.Janet.{marksOf, tableMarks}
 use Rattle.division.specs.Ordering.{NotAfter, listed, Listing}
 use Rattle.division.specs.Marking.{bufferCheck, marksChecks, marked, marksNumber, marksCase, marksAnswer, marksBuffer, MarksPromise}

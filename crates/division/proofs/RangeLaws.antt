@@ -30,7 +30,7 @@ use Rattle.terms.proofs.OrderLaws.{ascending-between}
 use Rattle.division.specs.Descent.{insert, distinct, last, numbersFrom, exponents, stepped, goesOn, onward, descend}
 use Rattle.division.proofs.NumberLaws.{distinct-in, map-in, numbers-in}
 use Rattle.division.proofs.DescentLaws.{exponents-in, stepped-in, stepped-make, tests-goesOn}
-use Rattle.division.specs.Ranges.{range, GroupRange, FirstLarger, after, foundRow}
+use Rattle.division.specs.Ranges.{range, GroupRange, FirstLarger, withSteps, foundRow}
 use Rattle.division.specs.declared.finding.Found.the-variants.{Row, Nothing}
 use Rattle.terms.specs.declared.RowNumber.{RowNumber}
 
@@ -110,7 +110,7 @@ module _ (G : Table) (q : Monomial) (i : ℕ) where
   descend-none k g h = rw (stepped-none g h)
 
   descend-on : (k : ℕ) (g : List ℕ) (c : ℕ) → last (stepped G q i g) ≡ some c → goesOn G q i g c ≡ true
-      → descend G q (suc k) i g ≡ after (length (stepped G q i g)) (descend G q k (suc i) (keep (λ r. eqb (rowAt G r ! i) c) g))
+      → descend G q (suc k) i g ≡ withSteps (length (stepped G q i g)) (descend G q k (suc i) (keep (λ r. eqb (rowAt G r ! i) c) g))
   unfolding descend onward
   descend-on k g c e t = rw (e, t)
 
@@ -135,12 +135,12 @@ module _ (G : Table) (q : Monomial) (i : ℕ) where
     -- One of the rows above does not exceed q's exponent: a is stepped on, and the other steps are those of the rows above, since the last
     -- exponent stepped on, the test whether it goes on, and the rows that have it are all the same without the rows that share a.
     pub descend-next : (k x : ℕ) → List·Memᴰ x above → rowAt G x ! i ≤ q ! i
-        → descend G q (suc k) i ((r ∷ g) ++ above) ≡ after 1 (descend G q (suc k) i above)
+        → descend G q (suc k) i ((r ∷ g) ++ above) ≡ withSteps 1 (descend G q (suc k) i above)
     unfolding last
     descend-next k x m l = by-steps (stepped G q i above) refl
       where
         by-goesOn : (c : ℕ) → a < c → last (stepped G q i ((r ∷ g) ++ above)) ≡ some c → last (stepped G q i above) ≡ some c
-            → (b : Bool) → goesOn G q i above c ≡ b → descend G q (suc k) i ((r ∷ g) ++ above) ≡ after 1 (descend G q (suc k) i above)
+            → (b : Bool) → goesOn G q i above c ≡ b → descend G q (suc k) i ((r ∷ g) ++ above) ≡ withSteps 1 (descend G q (suc k) i above)
         by-goesOn c less e f true t =
             let n : length (stepped G q i ((r ∷ g) ++ above)) ≡ suc (length (stepped G q i above)) = ap length stepped-parts in
             let d = descend G q k (suc i) (keep (λ s. eqb (rowAt G s ! i) c) above) in
@@ -156,7 +156,7 @@ module _ (G : Table) (q : Monomial) (i : ℕ) where
             let n : length (stepped G q i ((r ∷ g) ++ above)) ≡ 1 + length (stepped G q i above) = ap length stepped-parts ∙ omega arith in
             rw (descend-ends k ((r ∷ g) ++ above) c e (goesOn-above c (omega arith) ∙ t), descend-ends k above c f t, n)
 
-        by-steps : (s : List ℕ) → stepped G q i above ≡ s → descend G q (suc k) i ((r ∷ g) ++ above) ≡ after 1 (descend G q (suc k) i above)
+        by-steps : (s : List ℕ) → stepped G q i above ≡ s → descend G q (suc k) i ((r ∷ g) ++ above) ≡ withSteps 1 (descend G q (suc k) i above)
         by-steps [] e = absurd (List·Memᴰ·not-nil (subst (λ (s : List ℕ). List·Memᴰ (rowAt G x ! i) s) e (stepped-make G q i above x m l)))
         by-steps (b ∷ s) e =
             let p = last-in b s in
@@ -180,7 +180,7 @@ module _ (G : Table) (q : Monomial) (i : ℕ) where
           descend-ends k ((r ∷ g) ++ above) a last-step (goesOn-above a (omega arith) ∙ t)
           ∙ ap (λ (s : List ℕ). record { found = none; steps = length s; ended = i }) one-step
 
-      pub descend-down : (k : ℕ) → (a ≡ q ! i) ⊎ (above ≡ []) → descend G q (suc k) i ((r ∷ g) ++ above) ≡ after 1 (descend G q k (suc i) (r ∷ g))
+      pub descend-down : (k : ℕ) → (a ≡ q ! i) ⊎ (above ≡ []) → descend G q (suc k) i ((r ∷ g) ++ above) ≡ withSteps 1 (descend G q k (suc i) (r ∷ g))
       descend-down k o =
           let t : goesOn G q i above a ≡ true = sym (tests-true (tests-goesOn G q i above a)
           (⊎-elim (λ e. inl e) (λ e. inr (λ x m. absurd (List·Memᴰ·not-nil (subst (λ (l : List ℕ). List·Memᴰ x l) e m)))) o)) in
@@ -300,7 +300,7 @@ module _ {G : Table} {i lo hi : ℕ} (ascends : Ascending G) (R : GroupRange G i
       split : range lo hi ≡ (lo ∷ range (suc lo) mid) ++ range mid hi
       split = range-split lo mid hi (F .later) (F .within)
 
-      pub range-next : mid < hi → rowAt G mid ! i ≤ q ! i → descend G q (suc k) i (range lo hi) ≡ after 1 (descend G q (suc k) i (range mid hi))
+      pub range-next : mid < hi → rowAt G mid ! i ≤ q ! i → descend G q (suc k) i (range lo hi) ≡ withSteps 1 (descend G q (suc k) i (range mid hi))
       range-next l h =
           ap (descend G q (suc k) i) split
           ∙ descend-next G q i lo (range (suc lo) mid) (range mid hi) (rowAt G lo ! i) (share-in F) (exceed-in F) under k mid
@@ -317,13 +317,13 @@ module _ {G : Table} {i lo hi : ℕ} (ascends : Ascending G) (R : GroupRange G i
           (beyond-in (λ m. h)) k mid (numbers-first mid (hi - mid) (omega arith)) g
 
       pub range-down : (mid < hi → q ! i < rowAt G mid ! i) → (mid < hi → q ! i ≤ rowAt G lo ! i)
-          → descend G q (suc k) i (range lo hi) ≡ after 1 (descend G q k (suc i) (range lo mid))
+          → descend G q (suc k) i (range lo hi) ≡ withSteps 1 (descend G q k (suc i) (range lo mid))
       range-down h g =
           ap (descend G q (suc k) i) split
           ∙ descend-down G q i lo (range (suc lo) mid) (range mid hi) (rowAt G lo ! i) (share-in F) (exceed-in F) under (beyond-in h) k
           (by-cases (decLt mid hi) (λ l. inl (omega (arith, g l))) (λ f. let e : mid ≡ hi = omega (arith, F .within) in inr
           (ap (λ (m : ℕ). range mid m) (sym e) ∙ range-empty mid)))
-          ∙ ap (λ (l : List ℕ). after 1 (descend G q k (suc i) l)) (sym (range-cons lo mid (F .later)))
+          ∙ ap (λ (l : List ℕ). withSteps 1 (descend G q k (suc i) l)) (sym (range-cons lo mid (F .later)))
 
 -- ---- the answer of the code
 

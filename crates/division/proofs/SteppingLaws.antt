@@ -22,7 +22,7 @@ use Rattle.terms.specs.Monomials.{Monomial, Table, _!_, rowAt}
 use Rattle.terms.specs.Order.{Ascending}
 use Rattle.division.specs.Descent.{Descent, first, last, numbersFrom, descend, descent}
 use Rattle.division.proofs.DescentLaws.{descent-empty}
-use Rattle.division.specs.Ranges.{range, GroupRange, FirstLarger, Between, Reached, SteppedTo, Ready, after, descendFrom}
+use Rattle.division.specs.Ranges.{range, GroupRange, FirstLarger, Between, Reached, SteppedTo, Ready, withSteps, descendFrom}
 use Rattle.division.proofs.RangeLaws.{range-cons, range-all, ascends-at, range-above, range-shared, range-none, range-next, range-gap, range-down}
 
 -- ---- the search
@@ -57,14 +57,14 @@ read-at q (suc i) p = let e : suc i - 1 ≡ i = omega arith in rw e
 -- ---- the descent, from where the code has come to
 
 -- one more step before a descent
-after-one : (s : ℕ) (d e : Descent) → d ≡ after 1 e → after (s + 1) e ≡ after s d
+after-one : (s : ℕ) (d e : Descent) → d ≡ withSteps 1 e → withSteps (s + 1) e ≡ withSteps s d
 after-one s d e p =
     let z : s + 1 + e .steps ≡ s + (1 + e .steps) = omega arith in
     rw (p, z)
 
 module _ {n : ℕ} {G : Table} {q : Monomial} {i lo hi steps : ℕ} (R : Reached n G q i lo hi steps) where
   -- behind the last variable the row that is left is found
-  pub reached-end : n < i → i ≤ suc n → record { found = some lo; steps = steps; ended = 0 } ≡ after steps (descendFrom n G q i lo hi)
+  pub reached-end : n < i → i ≤ suc n → record { found = some lo; steps = steps; ended = 0 } ≡ withSteps steps (descendFrom n G q i lo hi)
   unfolding descend first
   reached-end l h =
       let e : suc n - i ≡ 0 = omega arith in
@@ -75,7 +75,7 @@ module _ {n : ℕ} {G : Table} {q : Monomial} {i lo hi steps : ℕ} (R : Reached
     left-here : suc n - i ≡ suc (n - i)
     left-here = omega arith
 
-    pub reached-none : q ! i < rowAt G lo ! i → record { found = none; steps = steps; ended = i } ≡ after steps (descendFrom n G q i lo hi)
+    pub reached-none : q ! i < rowAt G lo ! i → record { found = none; steps = steps; ended = i } ≡ withSteps steps (descendFrom n G q i lo hi)
     reached-none l =
         let z : steps + 0 ≡ steps = omega arith in
         rw (left-here, range-none (R .ascends) (R .group) q (n - i) l, z)
@@ -102,17 +102,17 @@ module _ {n : ℕ} {G : Table} {q : Monomial} {i lo hi steps : ℕ} (R : Reached
       }
 
       module _ (under : rowAt G lo ! i ≤ q ! i) where
-        reached-next : mid < hi → rowAt G mid ! i ≤ q ! i → after (steps + 1) (descendFrom n G q i mid hi) ≡ after steps (descendFrom n G q i lo hi)
+        reached-next : mid < hi → rowAt G mid ! i ≤ q ! i → withSteps (steps + 1) (descendFrom n G q i mid hi) ≡ withSteps steps (descendFrom n G q i lo hi)
         reached-next l h =
             rw (left-here) (after-one steps (descend G q (suc (n - i)) i (range lo hi)) (descend G q (suc (n - i)) i (range mid hi))
             (range-next (R .ascends) (R .group) q (n - i) F under l h))
 
         reached-gap : mid < hi → q ! i < rowAt G mid ! i → rowAt G lo ! i < q ! i
-            → record { found = none; steps = steps + 1; ended = i } ≡ after steps (descendFrom n G q i lo hi)
+            → record { found = none; steps = steps + 1; ended = i } ≡ withSteps steps (descendFrom n G q i lo hi)
         reached-gap l h g = rw (left-here, range-gap (R .ascends) (R .group) q (n - i) F under l h g)
 
         reached-down : (mid < hi → q ! i < rowAt G mid ! i) → (mid < hi → q ! i ≤ rowAt G lo ! i)
-            → after (steps + 1) (descendFrom n G q (i + 1) lo mid) ≡ after steps (descendFrom n G q i lo hi)
+            → withSteps (steps + 1) (descendFrom n G q (i + 1) lo mid) ≡ withSteps steps (descendFrom n G q i lo hi)
         reached-down h g =
             let e : suc n - (i + 1) ≡ n - i = omega arith in
             rw (e, add-one i, left-here) (after-one steps (descend G q (suc (n - i)) i (range lo hi)) (descend G q (n - i) (suc i) (range lo mid))
@@ -133,12 +133,12 @@ module _ {n : ℕ} {G : Table} {q : Monomial} {i lo hi steps low high taken : �
 
   -- the last exponent is below q's and not the largest
   pub stepped-gap : high < hi → q ! i < rowAt G high ! i → rowAt G low ! i < q ! i
-      → record { found = none; steps = taken + 1; ended = i } ≡ after steps (descendFrom n G q i lo hi)
+      → record { found = none; steps = taken + 1; ended = i } ≡ withSteps steps (descendFrom n G q i lo hi)
   stepped-gap l b g = reached-gap (S .reached) within (S .last) (S .under) l b g ∙ S .same
 
   -- it is q's or the largest
   pub stepped-down : (high < hi → q ! i < rowAt G high ! i) → (high < hi → q ! i ≤ rowAt G low ! i)
-      → after (taken + 1) (descendFrom n G q (i + 1) low high) ≡ after steps (descendFrom n G q i lo hi)
+      → withSteps (taken + 1) (descendFrom n G q (i + 1) low high) ≡ withSteps steps (descendFrom n G q i lo hi)
   stepped-down b g = reached-down (S .reached) within (S .last) (S .under) b g ∙ S .same
 
   pub stepped-shared : Reached n G q (i + 1) low high (taken + 1)
@@ -152,7 +152,7 @@ ready-empty zero G q R e = absurd (not-suc-le-zero (R .some))
 ready-empty (suc n) [] q R e = sym (descent-empty n q)
 ready-empty (suc n) (u ∷ G) q R e = absurd (omega arith)
 
-pub descent-all : (n : ℕ) (G : Table) (q : Monomial) → after 0 (descendFrom n G q 1 0 (length G)) ≡ descent n G q
+pub descent-all : (n : ℕ) (G : Table) (q : Monomial) → withSteps 0 (descendFrom n G q 1 0 (length G)) ≡ descent n G q
 unfolding descent
 descent-all n G q =
     let e : suc n - 1 ≡ n = omega arith in

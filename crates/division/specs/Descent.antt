@@ -5,6 +5,8 @@
 --   distinct l       the distinct numbers of l, ascending
 --   exponents G i g  the distinct exponents of the group g at variable i, ascending
 --   stepped G q i g  those that do not exceed q's: the exponents stepped on
+--   goesOn G q i g e   the last exponent stepped on, e, is q's, or the largest of the group
+--   onward           the rest of the descent where it goes on, and its end with nothing where it does not
 --   descend          the descent from a variable on, in a group
 --   descent n G q    rule 6: variable by variable, from all rows
 --   EndedAt o i j e  beside what was found, o: the variable e at which it ended is 0 where o is a row, and else one from i on and below j

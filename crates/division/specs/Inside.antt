@@ -1,6 +1,6 @@
 -- The operation inside (rule 1): the first given row that divides a query.
 --
---   firstDivisor G q   the number of the first row of G that divides q, or none
+--   firstDividing G q   the number of the first row of G that divides q, or none
 --   FirstDividing G q r   row number r divides q, and no earlier one does
 --   DividesFirst G q o    o is the first row number whose row divides q, or none where q is outside the ideal
 --   insideChecks n table query   the checks in order: 1 to 4 of the table, 5
@@ -17,7 +17,7 @@ use Rattle.terms.specs.Monomials.{Monomial, Table, rowAt}
 use Rattle.terms.specs.Ideal.{Divides, Inside, dividesTest}
 use Rattle.terms.specs.Rows.{rows}
 use Rattle.terms.specs.Refusals.{Check, refusal, tableChecks}
-use Rattle.division.specs.Operations.{lengthCheck}
+use Rattle.division.specs.Finding.{lengthCheck}
 use Rattle.division.specs.declared.inside.InsideAnswer.{InsideAnswer}
 use Rattle.division.specs.declared.inside.InsideAnswer.the-variants.{Row, Nothing, Refused}
 
@@ -27,9 +27,9 @@ unfolding dividesTest
 firstFrom r [] q = none
 firstFrom r (u ∷ G) q = pick (dividesTest u q) (some r) (firstFrom (suc r) G q)
 
-unfoldable pub firstDivisor : Table → Monomial → Option ℕ
+unfoldable pub firstDividing : Table → Monomial → Option ℕ
 unfolding firstFrom
-firstDivisor G q = firstFrom 0 G q
+firstDividing G q = firstFrom 0 G q
 
 pub record FirstDividing (G : Table) (q : Monomial) (r : ℕ) : Type 0 where
   pub within : r < length G
@@ -65,8 +65,8 @@ insideCase zero o = insideGives o
 insideCase (suc m) o = Refused (suc m)
 
 unfoldable pub insideAnswer : ℕ → List ℕ → List ℕ → InsideAnswer
-unfolding refusal firstDivisor
-insideAnswer n table query = insideCase (refusal (insideChecks n table query)) (firstDivisor (rows n table) query)
+unfolding refusal firstDividing
+insideAnswer n table query = insideCase (refusal (insideChecks n table query)) (firstDividing (rows n table) query)
 
 pub record InsidePromise (n : ℕ) (table query : List ℕ) (answer : InsideAnswer) : Type 0 where
   pub number : insideNumber answer ≡ refusal (insideChecks n table query)

@@ -8,5 +8,5 @@ pub mod Scan
 pub mod Descent
 pub mod Ranges
 pub mod Completeness
-pub mod Operations
+pub mod Finding
 pub mod Inside

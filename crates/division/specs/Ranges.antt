@@ -5,13 +5,14 @@
 --   FirstLarger G i lo hi r   r is the first later row of the range with a larger exponent at i than row lo, or hi where there is none
 --   Searched n G i a lo hi   a range of rows of G whose first row has no exponent above a at variable i
 --   Between G i a lo hi low high   row low of the range has no exponent above a at i, row high has one above it, or is the range's end
---   after s d        the descent d, with s steps taken before it
+--   withSteps s d    the descent d, with s steps taken before it
 --   descendFrom n G q i lo hi   rule 6 from variable i on, in the group of the rows lo to before hi
 --   Reached n G q i lo hi steps   what the code knows where it goes on so: the rows ascend, those are a group, and few steps are left
 --   SteppedTo n G q i lo hi steps low high taken   stepping along variable i has come to the exponent of the rows low to before high,
 --                    with `taken` steps before it, and what is left of the descent is the same
 --   LastStep ..      the same, and that is the last exponent stepped on: the next one exceeds q's
 --   Ready n G        what is known of a table that passed the checks 1 to 3 and 6
+--   foundRow o       what was found, as the enum that the code gives
 --   descended d      the descent d as the record that the code gives
 use mathlib.Core.Path.{_≡_}
 use mathlib.Core.List.{List}
@@ -54,8 +55,8 @@ pub record Between (G : Table) (i a lo hi low high : ℕ) : Type 0 where
   pub not-above : rowAt G low ! i ≤ a
   pub above : high < hi → a < rowAt G high ! i
 
-abbrev pub after : ℕ → Descent → Descent
-after s d = record { found = d .found; steps = s + d .steps; ended = d .ended }
+abbrev pub withSteps : ℕ → Descent → Descent
+withSteps s d = record { found = d .found; steps = s + d .steps; ended = d .ended }
 
 abbrev pub descendFrom : ℕ → Table → Monomial → ℕ → ℕ → ℕ → Descent
 descendFrom n G q i lo hi = descend G q (suc n - i) i (range lo hi)
@@ -73,7 +74,7 @@ pub record SteppedTo (n : ℕ) (G : Table) (q : Monomial) (i lo hi steps low hig
   pub under : rowAt G low ! i ≤ q ! i
   pub last : FirstLarger G i low hi high
   pub from : lo ≤ low
-  pub same : after taken (descendFrom n G q i low hi) ≡ after steps (descendFrom n G q i lo hi)
+  pub same : withSteps taken (descendFrom n G q i low hi) ≡ withSteps steps (descendFrom n G q i lo hi)
 
 pub record LastStep (n : ℕ) (G : Table) (q : Monomial) (i lo hi steps low high taken : ℕ) : Type 0 where
   pub stepped : SteppedTo n G q i lo hi steps low high taken

@@ -13,8 +13,8 @@ ghost use Rattle.terms.specs.Rows.{rows};
 ghost use Rattle.terms.specs.Order.{Ascending};
 ghost use Rattle.terms.specs.Refusals.{refusal};
 ghost use Rattle.division.specs.Descent.{descent};
-ghost use Rattle.division.specs.Operations.{findChecks, FindPromise};
-ghost use Rattle.division.specs.Ranges.{GroupRange, FirstLarger, Searched, Between, LastStep, Reached, Ready, after, descendFrom, descended};
+ghost use Rattle.division.specs.Finding.{findChecks, FindPromise};
+ghost use Rattle.division.specs.Ranges.{GroupRange, FirstLarger, Searched, Between, LastStep, Reached, Ready, withSteps, descendFrom, descended};
 
 // What a descent found.
 pub enum Found {
@@ -218,7 +218,7 @@ fn step(
     steps: usize,
 ) -> Descended
     requires { ⌜ (i .0 ≤ n) × Reached n (rows n (now table)) (now query) (i .0) (lo .0) (hi .0) steps ⌝ }
-    ensures { λ r. ⌜ r ≡ descended (after steps (descendFrom n (rows n (now (table .entry))) (now (query .entry)) (i .0) (lo .0) (hi .0))) ⌝ }
+    ensures { λ r. ⌜ r ≡ descended (withSteps steps (descendFrom n (rows n (now (table .entry))) (now (query .entry)) (i .0) (lo .0) (hi .0))) ⌝ }
 {
     let variable = i.0;
     let most = query[variable - 1];
@@ -256,7 +256,7 @@ fn descend(
     steps: usize,
 ) -> Descended
     requires { ⌜ (i .0 ≤ suc n) × Reached n (rows n (now table)) (now query) (i .0) (lo .0) (hi .0) steps ⌝ }
-    ensures { λ r. ⌜ r ≡ descended (after steps (descendFrom n (rows n (now (table .entry))) (now (query .entry)) (i .0) (lo .0) (hi .0))) ⌝ }
+    ensures { λ r. ⌜ r ≡ descended (withSteps steps (descendFrom n (rows n (now (table .entry))) (now (query .entry)) (i .0) (lo .0) (hi .0))) ⌝ }
 {
     if n < i.0 {
         return Descended {

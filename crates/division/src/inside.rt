@@ -2,6 +2,7 @@
 use crate::finding::Found;
 use terms::Row;
 use terms::RowNumber;
+use terms::divides;
 use terms::row_at;
 use terms::table_refusal;
 ghost use mathlib.Core.Path.{_≡_};
@@ -12,7 +13,7 @@ ghost use Rattle.terms.specs.Rows.{rows};
 ghost use Rattle.terms.specs.Ideal.{dividesTest};
 ghost use Rattle.terms.specs.Refusals.{refusal};
 ghost use Rattle.division.specs.Ranges.{foundRow};
-ghost use Rattle.division.specs.Inside.{firstDivisor, insideChecks, InsidePromise};
+ghost use Rattle.division.specs.Inside.{firstDividing, insideChecks, InsidePromise};
 
 // The answer of `inside`: the first row that divides the query, that none does, or a refusal.
 pub enum InsideAnswer {
@@ -26,22 +27,13 @@ fn row_divides(table: &[u8], n: usize, k: RowNumber, query: Row) -> bool
     requires { ⌜ (n ≤ 6) × (k .0 < length (rows n (now table))) ⌝ }
     ensures { λ r. ⌜ r ≡ dividesTest (rowAt (rows n (now (table .entry))) (k .0)) (query .exponents) ⌝ }
 {
-    let number = k.0;
-    let base = number * n;
-    let mut i = 0;
-    while i < n {
-        if table[base + i] > query.exponents[i] {
-            return false;
-        }
-        i += 1;
-    }
-    true
+    divides(row_at(table, n, k), query)
 }
 
 // The first row that divides the query, or none, without the checks.
-pub fn first_divisor(n: usize, table: &[u8], query: Row) -> Found
+pub fn first_dividing(n: usize, table: &[u8], query: Row) -> Found
     requires { ⌜ (0 < n) × (n ≤ 6) × (length (rows n (now table)) ≤ 4096) ⌝ }
-    ensures { λ r. ⌜ r ≡ foundRow (firstDivisor (rows n (now (table .entry))) (query .exponents)) ⌝ }
+    ensures { λ r. ⌜ r ≡ foundRow (firstDividing (rows n (now (table .entry))) (query .exponents)) ⌝ }
 {
     let count = table.len() / n;
     let mut k = 0;
@@ -76,7 +68,7 @@ pub fn inside(n: usize, table: &[u8], query: &[u8]) -> InsideAnswer
     if refused != 0 {
         return InsideAnswer::Refused(refused);
     }
-    let found = first_divisor(n, table, row_at(query, n, RowNumber(0)));
+    let found = first_dividing(n, table, row_at(query, n, RowNumber(0)));
     match found {
         Found::Row(row) => InsideAnswer::Row(row),
         Found::Nothing => InsideAnswer::Nothing,

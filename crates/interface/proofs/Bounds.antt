@@ -20,7 +20,7 @@ use Rattle.terms.specs.declared.Degree.{Degree}
 use Rattle.terms.proofs.MonomialLaws.{most-by, degree-most}
 use Rattle.terms.proofs.RowsLaws.{rows-size}
 use Rattle.terms.proofs.RefusalLaws.{rows-small}
-use Rattle.division.specs.Operations.{FindPromise, findChecks, findNumber, findSteps}
+use Rattle.division.specs.Finding.{FindPromise, findChecks, findNumber, findSteps}
 use Rattle.division.specs.Inside.{InsidePromise, insideChecks}
 use Rattle.division.specs.declared.finding.FindAnswer.{FindAnswer}
 use Rattle.division.specs.declared.finding.FindAnswer.the-variants.{Row}

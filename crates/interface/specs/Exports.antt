@@ -3,7 +3,7 @@
 --   insideOut, rowOut     the row number out for each case of an answer: 65,535 for no row, 0 beside a refusal
 --   MarksExport n table buffer number after, InsideExport n table query number row,
 --   FindExport n table query number row steps   some answer keeps the operation's promise, and the numbers are those of that answer
---   CountExport, PolynomialExport, SteadyExport, OpenExport   likewise
+--   CompleteExport, CountExport, PolynomialExport, SteadyExport, OpenExport   likewise
 use mathlib.Core.Path.{_≡_}
 use mathlib.Core.List.{List}
 use Prim.Native.Nat.{ℕ}
@@ -15,7 +15,7 @@ use Rattle.division.specs.declared.inside.InsideAnswer.{InsideAnswer}
 use Rattle.division.specs.declared.inside.InsideAnswer.the-variants as inside
 use Rattle.completion.specs.Operation.{CompletePromise, completeNumber, completeRows}
 use Rattle.completion.specs.declared.CompleteAnswer.{CompleteAnswer}
-use Rattle.division.specs.Operations.{FindPromise, findNumber, findSteps}
+use Rattle.division.specs.Finding.{FindPromise, findNumber, findSteps}
 use Rattle.division.specs.declared.finding.FindAnswer.{FindAnswer}
 use Rattle.division.specs.declared.finding.FindAnswer.the-variants as find
 use Rattle.counting.specs.Operations.{CountPromise, PolynomialPromise, SteadyPromise}

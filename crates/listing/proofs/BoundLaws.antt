@@ -15,7 +15,8 @@ use Rattle.terms.specs.Monomials.{Monomial, Table, _∈_, rowAt, AtMost}
 use Rattle.terms.specs.Rows.{rows}
 use Rattle.terms.proofs.MonomialLaws.{most-tail}
 use Rattle.terms.proofs.RowsLaws.{member-at, rows-size}
-use Rattle.terms.proofs.RefusalLaws.{TableAccepted, rows-small}
+use Rattle.terms.specs.Refusals.{TableAccepted}
+use Rattle.terms.proofs.RefusalLaws.{rows-small}
 use Rattle.division.specs.Janet.{tableMarks}
 use Rattle.division.proofs.MarksLaws.{tableMarks-at, marksOf-small}
 use Rattle.completion.specs.Completed.{completed}

@@ -11,7 +11,7 @@ use Rattle.terms.specs.Monomials.{degree}
 use Rattle.terms.specs.Ideal.{dividesTest, insideTest}
 use Rattle.terms.specs.Rows.{rows, firstRows}
 use Rattle.terms.specs.Refusals.{refusal}
-use Rattle.terms.specs.ExampleTables.{bundleD}
+use Rattle.terms.specs.ExampleTables.{listingD, bundleD}
 use Rattle.division.specs.Janet.{tableMarks, marksOf, marksByte, multiplicativeTest, group, sameBeforeTest}
 use Rattle.completion.specs.Blocks.{box, behind, repeated}
 use Rattle.completion.specs.Completed.{completed, completedTest, entersTest, candidate, largest, joined}
@@ -29,21 +29,12 @@ unfolding bundleText tablesText tableText completedText wholeText rowLines table
     tableMarks marksOf marksByte multiplicativeTest group sameBeforeTest steadyOf degree
 output b = bundleText b
 
--- T 0 2 3, 0 2 : 2, 1 2 : 2, 2 1 : 3, S 3
-abbrev pub fiveLines : List ℕ
-fiveLines =
-    (84 ∷ 32 ∷ 48 ∷ 32 ∷ 50 ∷ 32 ∷ 51 ∷ 10 ∷ [])
-    ++ (48 ∷ 32 ∷ 50 ∷ 32 ∷ 58 ∷ 32 ∷ 50 ∷ 10 ∷ [])
-    ++ (49 ∷ 32 ∷ 50 ∷ 32 ∷ 58 ∷ 32 ∷ 50 ∷ 10 ∷ [])
-    ++ (50 ∷ 32 ∷ 49 ∷ 32 ∷ 58 ∷ 32 ∷ 51 ∷ 10 ∷ [])
-    ++ (83 ∷ 32 ∷ 51 ∷ 10 ∷ [])
-
-pub listing : bundleText bundleD ≡ fiveLines
+pub listing : bundleText bundleD ≡ listingD
 unfolding output
 listing = refl
 
 -- a second table, with the rows 3 0 and 0 3: T 1 2 4, 0 3 : 2, 1 3 : 2, 2 3 : 2, 3 0 : 3, S 5
-pub listing-two : bundleText (2 ∷ 2 ∷ 2 ∷ 0 ∷ 10 ∷ 0 ∷ 2 ∷ 0 ∷ 14 ∷ 0 ∷ 2 ∷ 1 ∷ 0 ∷ 2 ∷ 3 ∷ 0 ∷ 0 ∷ 3 ∷ []) ≡ fiveLines
+pub listing-two : bundleText (2 ∷ 2 ∷ 2 ∷ 0 ∷ 10 ∷ 0 ∷ 2 ∷ 0 ∷ 14 ∷ 0 ∷ 2 ∷ 1 ∷ 0 ∷ 2 ∷ 3 ∷ 0 ∷ 0 ∷ 3 ∷ []) ≡ listingD
     ++ (84 ∷ 32 ∷ 49 ∷ 32 ∷ 50 ∷ 32 ∷ 52 ∷ 10 ∷ [])
     ++ (48 ∷ 32 ∷ 51 ∷ 32 ∷ 58 ∷ 32 ∷ 50 ∷ 10 ∷ [])
     ++ (49 ∷ 32 ∷ 51 ∷ 32 ∷ 58 ∷ 32 ∷ 50 ∷ 10 ∷ [])

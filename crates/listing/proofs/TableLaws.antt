@@ -17,7 +17,8 @@ use Rattle.terms.specs.Order.{Ascending}
 use Rattle.terms.specs.Rows.{rows, flat}
 use Rattle.terms.specs.Refusals.{refusal, Accepts, tableChecks}
 use Rattle.terms.proofs.RowsLaws.{length-flat, rows-flat, rows-size}
-use Rattle.terms.proofs.RefusalLaws.{TableAccepted, table-accepted, table-passed, accepted}
+use Rattle.terms.specs.Refusals.{TableAccepted}
+use Rattle.terms.proofs.RefusalLaws.{table-accepted, table-passed, accepted}
 use Rattle.division.specs.Janet.{tableMarks}
 use Rattle.division.specs.Marking.{marked}
 use Rattle.division.proofs.MarksLaws.{length-tableMarks}

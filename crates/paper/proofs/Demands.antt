@@ -18,9 +18,10 @@ use Rattle.terms.specs.Rows.{rows, firstRows, flat}
 use Rattle.terms.specs.Refusals.{Check, Accepts, Refuses, refusal, tableChecks}
 use Rattle.terms.proofs.RowsLaws.{rows-size, rows-flat}
 use Rattle.terms.proofs.RefusalLaws.{accepted, accepts-nil, accepts-cons, accepts-left, accepts-append, accepts-refusal, refusal-refuses, refuses-refusal}
-use Rattle.terms.proofs.RefusalLaws.{TableAccepted, table-accepted, accepts-table, rows-small}
+use Rattle.terms.specs.Refusals.{TableAccepted}
+use Rattle.terms.proofs.RefusalLaws.{table-accepted, accepts-table, rows-small}
 use Rattle.division.specs.Janet.{Multiplicative, Complete}
-use Rattle.division.specs.Operations.{FindPromise, lengthCheck, orderCheck, findChecks, findNumber, findRow, findSteps}
+use Rattle.division.specs.Finding.{FindPromise, lengthCheck, orderCheck, findChecks, findNumber, findRow, findSteps}
 use Rattle.division.proofs.FindLaws.{find-finds, find-steps, find-ready}
 use Rattle.completion.specs.Completed.{CompletedTable}
 use Rattle.completion.specs.Operation.{CompletePromise, completeChecks, completeNumber, completeRows, completedOf, roomFor}
@@ -53,7 +54,7 @@ use lib.Seq.{drop-at}
 use Rattle.bundle.specs.Checks.{openChecks}
 use Rattle.bundle.specs.Operation.{opened}
 use Rattle.bundle.proofs.ReadLaws.{refused-is}
-use Rattle.paper.specs.Demands.{Settled, DemandOne, DemandTwo, DemandThree, Completion, Marking, OneDivisor}
+use Rattle.paper.specs.Demands.{Settled, DemandOne, DemandTwo, DemandThree, Completion, MarksWritten, OneDivisor}
 use Rattle.paper.proofs.EndToEnd.{outside-ideal, flat-accepted}
 
 -- ---- the first demand
@@ -131,7 +132,7 @@ room-decides n table buffer answer after p a H is =
 
 -- the byte of row r is the row's marks, and its bits say where it is multiplicative
 marking-of : (n : ℕ) (table buffer : List ℕ) (answer : MarksAnswer) (after : List ℕ) → MarksPromise n table buffer answer after
-    → marksNumber answer ≡ 0 → Marking n table buffer after
+    → marksNumber answer ≡ 0 → MarksWritten n table buffer after
 marking-of n table buffer answer after p e = record {
   marks = λ r j l h.
       let t = tests-marks n G (rowAt G r) j h in (

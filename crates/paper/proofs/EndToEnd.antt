@@ -12,7 +12,7 @@ use Rattle.terms.specs.Monomials.{Monomial, Table, _∈_, OfSize, AtMost}
 use Rattle.terms.specs.Ideal.{SameIdeal}
 use Rattle.terms.specs.Rows.{flat}
 use Rattle.terms.proofs.RowsLaws.{rows-flat, length-flat, member-index}
-use Rattle.terms.proofs.RefusalLaws.{TableAccepted}
+use Rattle.terms.specs.Refusals.{TableAccepted}
 use Rattle.counting.specs.Counts.{CountsOutside}
 
 pub outside-ideal : {n : ℕ} {G H : Table} {s k : ℕ} → SameIdeal n G H → CountsOutside n H s k → CountsOutside n G s k

@@ -2,11 +2,19 @@
 --
 --   starred-examples
 use mathlib.Core.Path.{refl}
+use Rattle.terms.specs.Order.{Ascending, precedesTest, ascendingTest}
+use Rattle.terms.specs.ExampleTables.{tableF}
+use Rattle.terms.proofs.OrderLaws.{tests-ascending}
 use Rattle.division.specs.Descent.{descent}
 use Rattle.division.proofs.Examples as division
 use Rattle.completion.proofs.Examples as completion
 use Rattle.counting.proofs.Examples as counting
+use Rattle.listing.proofs.Examples as listing
 use Rattle.paper.specs.Examples.{StarredExamples}
+
+ascending-F : Ascending tableF
+unfolding ascendingTest precedesTest
+ascending-F = tests-ascending tableF .sound tt
 
 pub starred-examples : StarredExamples
 unfolding descent
@@ -14,9 +22,9 @@ starred-examples = record {
   A = (completion.example-A-table, λ q. record { found = refl; steps = refl }, counting.example-A);
   B = (completion.example-B-table, division.example-B-marks, counting.example-B);
   C = (counting.example-C-count, counting.example-C-polynomial);
-  D = (completion.example-D-table, division.example-D-marks, counting.example-D .0, counting.example-D .2, counting.example-D .1);
+  D = (listing.listing, completion.example-D-table, division.example-D-marks, counting.example-D .3, counting.example-D .0, counting.example-D .2, counting.example-D .1);
   E = completion.example-E-table;
-  F = (division.example-F-marks, division.example-F-open);
+  F = (ascending-F, division.example-F-marks, division.example-F-open);
   G = (record { found = refl; steps = refl }, record { found = refl; steps = refl });
   H = (completion.example-H-table, refl);
   I = completion.example-I-table;

@@ -4,7 +4,7 @@
 use mathlib.Core.Path.{_≡_, sym, ap, _∙_}
 use Rattle.division.specs.Marking.{marksNumber}
 use Rattle.division.specs.Inside.{insideNumber}
-use Rattle.division.specs.Operations.{findNumber, findSteps}
+use Rattle.division.specs.Finding.{findNumber, findSteps}
 use Rattle.division.proofs.MarkingLaws.{marks-unique}
 use Rattle.division.proofs.InsideLaws.{inside-unique}
 use Rattle.division.proofs.FindLaws.{find-unique}

@@ -13,7 +13,7 @@ use Rattle.terms.specs.Refusals.{Check, Accepts, Refuses, refusal}
 use Rattle.terms.proofs.RowsLaws.{rows-size}
 use Rattle.terms.proofs.RefusalLaws.{accepts-refusal, refuses-refusal}
 use Rattle.division.specs.Inside.{insideNumber}
-use Rattle.division.specs.Operations.{findNumber, findSteps}
+use Rattle.division.specs.Finding.{findNumber, findSteps}
 use Rattle.division.specs.declared.inside.InsideAnswer.{InsideAnswer}
 use Rattle.division.specs.declared.inside.InsideAnswer.the-variants as inside
 use Rattle.division.specs.declared.finding.FindAnswer.{FindAnswer}

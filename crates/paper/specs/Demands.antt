@@ -7,7 +7,7 @@
 --                 room exactly when that table has more rows than the room
 --   DemandThree   among the completed rows a monomial of the ideal has exactly one Janet divisor, and any other none; the descent finds
 --                 what a scan finds within degree plus n steps; the count from the completed rows is the number of monomials outside
---   Completion, Marking, OneDivisor   what stands in a buffer after an accepted completion, after accepted marks; one divisor and no other
+--   Completion, MarksWritten, OneDivisor   what stands in a buffer after an accepted completion, after accepted marks; one divisor and no other
 --
 -- The contract of each operation is the promise of that name; every function is proved to keep it.
 use mathlib.Core.Path.{_≡_}
@@ -28,7 +28,7 @@ use Rattle.division.specs.Marking.{MarksPromise, marksChecks, marksNumber}
 use Rattle.division.specs.Inside.{InsidePromise, insideChecks, insideNumber}
 use Rattle.division.specs.declared.marking.MarksAnswer.{MarksAnswer}
 use Rattle.division.specs.declared.inside.InsideAnswer.{InsideAnswer}
-use Rattle.division.specs.Operations.{FindPromise, findChecks, findNumber, findRow, findSteps}
+use Rattle.division.specs.Finding.{FindPromise, findChecks, findNumber, findRow, findSteps}
 use Rattle.completion.specs.Completed.{CompletedTable}
 use Rattle.completion.specs.Operation.{CompletePromise, completeChecks, completeNumber, completeRows, roomFor}
 use Rattle.counting.specs.Counts.{CountsOutside}
@@ -75,7 +75,7 @@ pub record Completion (n : ℕ) (table buffer : List ℕ) (k : ℕ) (after : Lis
   pub behind : drop (k * n) after ≡ drop (k * n) buffer
 
 -- what stands in the buffer after accepted marks: of row r's byte, bit j is set exactly when variable j + 1 is multiplicative for the row
-pub record Marking (n : ℕ) (table buffer after : List ℕ) : Type 0 where
+pub record MarksWritten (n : ℕ) (table buffer after : List ℕ) : Type 0 where
   pub marks : (r j : ℕ) → r < length (rows n table) → j < n → (getD after r 0 / 2 ^ j % 2 ≡ 1) ↔ Multiplicative (rows n table) (rowAt (rows n table) r) (suc j)
   pub small : (r : ℕ) → r < length (rows n table) → getD after r 0 < 2 ^ n
   pub behind : drop (length (rows n table)) after ≡ drop (length (rows n table)) buffer
@@ -84,7 +84,7 @@ pub record DemandTwo : Type 1 where
   -- rule 5's table is there for every table, and it is the only one
   pub table : (n : ℕ) (table : List ℕ) → (H : Table) × CompletedTable n (rows n table) H × ((K : Table) → CompletedTable n (rows n table) K → K ≡ H)
   pub marks : (n : ℕ) (table buffer : List ℕ) (answer : MarksAnswer) (after : List ℕ) → MarksPromise n table buffer answer after
-      → marksNumber answer ≡ 0 → Marking n table buffer after
+      → marksNumber answer ≡ 0 → MarksWritten n table buffer after
   pub complete : (n : ℕ) (table buffer : List ℕ) (answer : CompleteAnswer) (after : List ℕ) → CompletePromise n table buffer answer after
       → completeNumber answer ≡ 0 → Completion n table buffer (completeRows answer) after
   -- 8 exactly when rule 5's table has more rows than the room

@@ -11,14 +11,16 @@ use Prim.Native.Nat.{ℕ}
 use lib.IntN.{pos}
 use lib.ListN.{length}
 use Rattle.terms.specs.Monomials.{Monomial}
-use Rattle.terms.specs.ExampleTables.{tableB, tableC, tableD, bytesD, completedD, tableE, completedE, tableF, completedF, tableI, completedI}
+use Rattle.terms.specs.ExampleTables.{tableB, tableC, tableD, bytesD, bundleD, listingD, completedD, tableE, completedE, tableF, completedF, tableI, completedI}
+use Rattle.terms.specs.Order.{Ascending}
 use Rattle.division.specs.Janet.{Complete, tableMarks}
 use Rattle.division.specs.Descent.{Descent, descent}
 use Rattle.completion.specs.Completed.{CompletedTable}
 use Rattle.completion.specs.Operation.{CompletePromise}
 use Rattle.completion.specs.declared.CompleteAnswer.{CompleteAnswer}
 use Rattle.completion.specs.declared.CompleteAnswer.the-variants.{Rows, Refused}
-use Rattle.counting.specs.Counts.{countAt, polynomialAt}
+use Rattle.counting.specs.Counts.{countAt, polynomialAt, steadyOf}
+use Rattle.listing.specs.Text.{bundleText}
 
 -- a descent gives this row number, in so many steps
 pub record Gives (d : Descent) (o : Option ℕ) (k : ℕ) : Type 0 where
@@ -32,13 +34,13 @@ pub record StarredExamples : Type 0 where
   pub B : CompletedTable 2 tableB tableB × (tableMarks 2 tableB ≡ 3 ∷ []) × ((s : ℕ) → countAt 2 tableB s ≡ 0)
   -- row 3, n = 1: count at 2 is 3, polynomial 3 at every s
   pub C : (countAt 1 tableC 2 ≡ 3) × ((s : ℕ) → polynomialAt 1 tableC s ≡ pos 3)
-  -- the listing: its completed rows and their marks; count at 3 is 6, polynomial at 0 is 3 while the count is 1
-  pub D : CompletedTable 2 tableD completedD × (tableMarks 2 completedD ≡ 2 ∷ 2 ∷ 3 ∷ [])
+  -- the listing, byte for byte, its completed rows, their marks and steady degree; count at 3 is 6, polynomial at 0 is 3 while the count is 1
+  pub D : (bundleText bundleD ≡ listingD) × CompletedTable 2 tableD completedD × (tableMarks 2 completedD ≡ 2 ∷ 2 ∷ 3 ∷ []) × (steadyOf completedD ≡ 3)
       × (countAt 2 completedD 3 ≡ 6) × (polynomialAt 2 completedD 0 ≡ pos 3) × (countAt 2 completedD 0 ≡ 1)
   -- rows 1 0 and 1 0: completed to one row
   pub E : CompletedTable 2 tableE completedE
-  -- marks 4, 4, 6, 6, 7; not complete
-  pub F : (tableMarks 3 tableF ≡ 4 ∷ 4 ∷ 6 ∷ 6 ∷ 7 ∷ []) × (Complete 3 tableF → ⊥)
+  -- ascending, with marks 4, 4, 6, 6, 7; not complete
+  pub F : Ascending tableF × (tableMarks 3 tableF ≡ 4 ∷ 4 ∷ 6 ∷ 6 ∷ 7 ∷ []) × (Complete 3 tableF → ⊥)
   -- in F, find of 1 2 5 gives row 3 in 4 steps; of 2 0 1, none in 2 steps
   pub G : Gives (descent 3 tableF (1 ∷ 2 ∷ 5 ∷ [])) (some 3) 4 × Gives (descent 3 tableF (2 ∷ 0 ∷ 1 ∷ [])) none 2
   -- F completes to 11 rows

@@ -9,7 +9,7 @@ use lib.IntN.{ℤ}
 use denote.Ref.{RefT}
 use Rattle.division.specs.Marking.{MarksPromise}
 use Rattle.division.specs.Inside.{InsidePromise}
-use Rattle.division.specs.Operations.{FindPromise}
+use Rattle.division.specs.Finding.{FindPromise}
 use Rattle.division.specs.declared.marking.MarksAnswer.{MarksAnswer}
 use Rattle.division.specs.declared.inside.InsideAnswer.{InsideAnswer}
 use Rattle.division.specs.declared.finding.FindAnswer.{FindAnswer}

@@ -15,7 +15,7 @@ use Rattle.terms.specs.Rows.{rows}
 use Rattle.terms.specs.Refusals.{Accepts, Refuses}
 use Rattle.division.specs.Marking.{marksChecks}
 use Rattle.division.specs.Inside.{InsidePromise, insideChecks, insideNumber, insideRow, DividesFirst}
-use Rattle.division.specs.Operations.{findChecks}
+use Rattle.division.specs.Finding.{findChecks}
 use Rattle.division.specs.declared.inside.InsideAnswer.{InsideAnswer}
 use Rattle.completion.specs.Completed.{CompletedTable}
 use Rattle.completion.specs.Operation.{completeChecks}

@@ -7,7 +7,7 @@
 --   refusal-append, refusal-first      the refusal of a list in two parts: the second decides, or the first does
 --   refuses-first, passes-first        the same of a number that was computed
 --   first-passes, rest-passes          where the list refuses nothing, neither part does
---   TableAccepted, table-accepted      what is known of a table that passed the checks 1 to 4
+--   table-accepted                     what is known of a table that passed the checks 1 to 4
 --   accepts-table                      and that this is enough to pass them
 --   table-passed, table-listed         where their refusal is 0, alone or in front of other checks
 --   entries-small, rows-small          no exponent of a row of it is above 50, by number and by membership
@@ -28,7 +28,7 @@ use Rattle.terms.specs.Monomials.{Monomial, _∈_, rowAt, AtMost, degree
 use Rattle.terms.specs.Rows.{rows}
 use Rattle.terms.proofs.MonomialLaws.{beyond, degree-most}
 use Rattle.terms.proofs.RowsLaws.{length-rows, row-size, row-within, entry-at, member-at, member-index}
-use Rattle.terms.specs.Refusals.{Check, refusal, Refuses, Accepts, NoMultiple, check, tableChecks}
+use Rattle.terms.specs.Refusals.{Check, refusal, Refuses, Accepts, NoMultiple, check, tableChecks, TableAccepted}
 use Rattle.terms.specs.Refusals.{tests-notOneToSix, tests-noMultiple, tests-tooManyRows, tests-entryAbove50}
 
 -- the first check refuses, or it passes and the others decide
@@ -148,13 +148,6 @@ pub rest-passes : (checks more : List Check) → refusal (checks ++ more) ≡ 0 
 rest-passes checks more e = accepts-refusal more (accepts-right checks more (accepted (checks ++ more) e))
 
 -- ---- a table that passed the checks 1 to 4
-
-pub record TableAccepted (n : ℕ) (bytes : List ℕ) : Type 0 where
-  pub some : 0 < n
-  pub few : n ≤ 6
-  pub whole : length bytes ≡ length (rows n bytes) * n
-  pub limited : length (rows n bytes) ≤ 4096
-  pub small : (e : ℕ) → List·Memᴰ e bytes → e ≤ 50
 
 multiple : (n : ℕ) (bytes : List ℕ) → (NoMultiple n bytes → ⊥) → length bytes ≡ length (rows n bytes) * n
 multiple n bytes f = by-cases (ℕ-discrete (length bytes % n) 0)

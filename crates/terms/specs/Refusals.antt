@@ -4,7 +4,10 @@
 --   refusal checks   the number of the first check whose condition holds, 0 where none does
 --   Refuses checks m m is given: its condition holds, and none earlier in the order does
 --   Accepts checks   no condition holds
+--   NotOneToSix n, NoMultiple n bytes, TooManyRows n bytes, EntryAbove50 bytes   the conditions of 1 to 4, each with its test, `tests-..`
+--   check            a check from its number and the test of its condition
 --   tableChecks n bytes   the checks 1 to 4, which every operation on a table begins with
+--   TableAccepted n bytes   what is known of a table that passes them
 --
 -- An operation's list is `tableChecks` and then its own checks.
 use mathlib.Core.Path.{_≡_, sym, ap, _∙_}
@@ -82,3 +85,11 @@ tableChecks n bytes =
     ∷ check 3 (lit< tt) (tests-tooManyRows n bytes)
     ∷ check 4 (lit< tt) (tests-entryAbove50 bytes)
     ∷ []
+
+-- what is known of a table that passes them
+pub record TableAccepted (n : ℕ) (bytes : List ℕ) : Type 0 where
+  pub some : 0 < n
+  pub few : n ≤ 6
+  pub whole : length bytes ≡ length (rows n bytes) * n
+  pub limited : length (rows n bytes) ≤ 4096
+  pub small : (e : ℕ) → List·Memᴰ e bytes → e ≤ 50

@@ -4,7 +4,7 @@ use mathlib.Core.Path.{sym, ap}
 use denote.Ref.{now}
 use borrow.Author.Needs.{needs}
 use mathlib.Core.Path.{subst}
-use Rattle.division.specs.Operations.{FindPromise, findNumber, findSteps}
+use Rattle.division.specs.Finding.{FindPromise, findNumber, findSteps}
 use Rattle.division.specs.declared.finding.FindAnswer.{FindAnswer}
 use Rattle.interface.specs.Exports.{rowOut}
 use Rattle.interface.proofs.Bounds.{row-small, steps-small}

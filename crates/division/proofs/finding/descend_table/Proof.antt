@@ -8,7 +8,7 @@ use borrow.Author.Needs.{needs}
 use Rattle.terms.specs.Rows.{rows}
 use Rattle.terms.proofs.RowsLaws.{length-rows}
 use Rattle.division.specs.Descent.{descent}
-use Rattle.division.specs.Ranges.{Reached, after, descendFrom, descended}
+use Rattle.division.specs.Ranges.{Reached, withSteps, descendFrom, descended}
 use Rattle.division.proofs.SteppingLaws.{ready-empty, descent-all, reached-start}
 use Rattle.division.proofs.finding.descend_table.Statement.{statement}
 use Rattle.division.proofs.finding.descend_table.Tie as tie
@@ -39,7 +39,7 @@ returns-2 c =
     let s = c .before .before .before .before in
     let a = s .args in
     let e = length-rows (a .n) (a .table .now) in
-    let f : after 0 (descendFrom (a .n) (rows (a .n) (a .table .now)) (a .query .now) 1 0 (length (a .table .now) / a .n)) ≡ descent (a .n)
+    let f : withSteps 0 (descendFrom (a .n) (rows (a .n) (a .table .now)) (a .query .now) 1 0 (length (a .table .now) / a .n)) ≡ descent (a .n)
     (rows (a .n) (a .table .now)) (a .query .now) =
     rw e at (descent-all (a .n) (rows (a .n) (a .table .now)) (a .query .now)) in
     c .descend .ensures ∙ ap descended f

@@ -4,7 +4,7 @@ use mathlib.Core.Path.{sym, _∙_, subst}
 use Prim.Native.Nat.{ℕ}
 use denote.Ref.{now}
 use borrow.Author.Needs.{needs}
-use Rattle.division.specs.Operations.{FindPromise}
+use Rattle.division.specs.Finding.{FindPromise}
 use Rattle.division.specs.declared.finding.FindAnswer.the-variants.{Refused}
 use Rattle.division.proofs.FindLaws.{find-refuses, find-ready, find-length, find-row, find-nothing}
 use Rattle.division.proofs.finding.find.Statement.{statement}

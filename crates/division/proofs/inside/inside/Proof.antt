@@ -10,7 +10,7 @@ use Rattle.division.proofs.InsideLaws.{inside-refuses, inside-passed, o
 use Rattle.terms.specs.Rows.{rows}
 use Rattle.terms.specs.declared.Row.{Row}
 use Rattle.division.specs.Ranges.{foundRow}
-use Rattle.division.specs.Inside.{firstDivisor}
+use Rattle.division.specs.Inside.{firstDividing}
 use Rattle.division.proofs.inside.inside.Statement.{statement}
 use Rattle.division.proofs.inside.inside.Tie as tie
 
@@ -30,8 +30,8 @@ row-at-requires c κs =
     let e = sym (c .before .inside-refusal .ensures) ∙ c .if1 .left in
     (inside-passed (a .n) (a .table .now) (a .query .now) e .few, one-row (a .n) (a .table .now) (a .query .now) e)
 
-first-divisor-requires : tie.Need-first-divisor-requires
-first-divisor-requires c κs =
+first-dividing-requires : tie.Need-first-dividing-requires
+first-dividing-requires c κs =
     let a = c .before .before .before .before .before .args in
     let e = sym (c .before .before .inside-refusal .ensures) ∙ c .before .if1 .left in
     let p = inside-passed (a .n) (a .table .now) (a .query .now) e in
@@ -47,17 +47,17 @@ returns-2 : tie.Need-returns-2
 returns-2 c =
     let a = c .before .before .before .before .before .before .before .before .before .args in
     let e = sym (c .before .before .before .before .before .before .inside-refusal .ensures) ∙ c .before .before .before .before .before .if1 .left in
-    let d = c .before .before .before .first-divisor in
+    let d = c .before .before .before .first-dividing in
     let read = c .before .before .before .before .row-at in
-    let q = d .ensures ∙ ap (λ (r : Row). foundRow (firstDivisor (rows (a .n) (a .table .now)) (r .exponents))) (read .ensures) in
+    let q = d .ensures ∙ ap (λ (r : Row). foundRow (firstDividing (rows (a .n) (a .table .now)) (r .exponents))) (read .ensures) in
     inside-row (a .n) (a .table .now) (a .query .now) e (d .result) q _ (c .before .found .given .1)
 
 returns-3 : tie.Need-returns-3
 returns-3 c =
     let a = c .before .before .before .before .before .before .before .before .args in
     let e = sym (c .before .before .before .before .before .inside-refusal .ensures) ∙ c .before .before .before .before .if1 .left in
-    let d = c .before .before .first-divisor in
-    let q = d .ensures ∙ ap (λ (r : Row). foundRow (firstDivisor (rows (a .n) (a .table .now)) (r .exponents))) (c .before .before .before .row-at .ensures) in
+    let d = c .before .before .first-dividing in
+    let q = d .ensures ∙ ap (λ (r : Row). foundRow (firstDividing (rows (a .n) (a .table .now)) (r .exponents))) (c .before .before .before .row-at .ensures) in
     inside-nothing (a .n) (a .table .now) (a .query .now) e (d .result) q (c .enum-told .given .1)
 
 pub inside-spec : {M : Type 1} → statement M
@@ -67,7 +67,7 @@ inside-spec =
     inside-refusal-requires
     returns
     row-at-requires
-    first-divisor-requires
+    first-dividing-requires
     enum-known-found
     enum-told
     returns-2

@@ -8,13 +8,13 @@ use denote.Ref.{now}
 use Rattle.terms.specs.Rows.{rows}
 use Rattle.terms.proofs.RowsLaws.{length-rows}
 use Rattle.division.specs.Ranges.{foundRow}
-use Rattle.division.specs.Inside.{firstDivisor, firstFrom}
+use Rattle.division.specs.Inside.{firstDividing, firstFrom}
 use Rattle.division.proofs.InsideLaws.{first-starts, first-stops, first-goes-on, first-past}
-use Rattle.division.proofs.inside.first_divisor.Statement.{statement}
-use Rattle.division.proofs.inside.first_divisor.Tie as tie
+use Rattle.division.proofs.inside.first_dividing.Statement.{statement}
+use Rattle.division.proofs.inside.first_dividing.Tie as tie
 
 abbrev Inv-loop : tie.InvT-loop
-Inv-loop n table query count k₀ k = (k ≤ count) × (firstDivisor (rows n table) (query .exponents) ≡ firstFrom k (drop k (rows n table)) (query .exponents))
+Inv-loop n table query count k₀ k = (k ≤ count) × (firstDividing (rows n table) (query .exponents) ≡ firstFrom k (drop k (rows n table)) (query .exponents))
 
 abbrev μ-loop : tie.MeasureT-loop
 μ-loop n table query count k₀ k = count - k
@@ -73,8 +73,8 @@ returns-2 c =
     let z = length-rows (a .n) (a .table .now) in
     sym (ap foundRow (l .inv .1 ∙ first-past G (a .query .exponents) (l .k) (omega arith)))
 
-pub first-divisor-spec : {M : Type 1} → statement M
-first-divisor-spec =
+pub first-dividing-spec : {M : Type 1} → statement M
+first-dividing-spec =
     tie.close
     (tie.spec
     Inv-loop

@@ -1,7 +1,7 @@
 -- What `find` promises.
 --
---   OtherLength n query    5: the query's length is not n
---   NotAscending n table   6: the rows are not strictly ascending
+--   OtherLength n query    5: the query's length is not n, with its check `lengthCheck`
+--   NotAscending n table   6: the rows are not strictly ascending, with its check `orderCheck`
 --   findChecks n table query   the checks in order: 1 to 4 of the table, 5, 6
 --   findNumber, findRow, findSteps   the paper's number of an answer, 0 for none; the row number, if there is one; the steps. Beside a refusal none and 0
 --   findAnswer n table query   the answer: what rule 6's descent gives, or the refusal

@@ -217,14 +217,13 @@ module _ {T : Table} {start : ℕ} {P : List ℕ} {n rest rows : ℕ} {head : Li
         row-end : row ≡ fit room (w .end + length M)
         row-end = block .0 ∙ ap (λ (x : ℕ). fit room (w .end + x)) (ap length again-rows ∙ length-after p M)
 
-        pub step-full : room < row → (o : List ℕ) →
-            Stepped T start P n rest rows head room a work (record { from = 0; end = row; last = a; generators = 0 }) work₁ o
-        step-full h o =
+        pub step-full : room < row → {r : Progress} → r .end ≡ row → {o : List ℕ} → Stepped T start P n rest rows head room a work r work₁ o
+        step-full h e =
             let b : room < w .end + length M = beyond-fit room (w .end + length M) (omega (arith, row-end)) in
             let all : ℕ = start + length (walk (λ H. slices rest H) T (suc a) .written) in
             record {
               kept = kept-front;
-              end = row-end ∙ fit-beyond room (w .end + length M) b ∙ sym (fit-beyond room all (omega (arith, next-length)));
+              end = e ∙ row-end ∙ fit-beyond room (w .end + length M) b ∙ sym (fit-beyond room all (omega (arith, next-length)));
               on = λ l. absurd (omega arith);
             }
 

@@ -31,6 +31,7 @@ use Rattle.completion.proofs.chain.Reads as chain-reads
 use Rattle.completion.proofs.grows.Reads as grows-reads
 use Rattle.completion.proofs.head_count.Reads as head-count-reads
 use Rattle.completion.proofs.last_variable.Reads as last-variable-reads
+use Rattle.completion.proofs.passed.Reads as passed-reads
 use Rattle.completion.proofs.repeat.Reads as repeat-reads
 use Rattle.completion.proofs.settle.Reads as settle-reads
 use Rattle.completion.proofs.take_tails.Reads as take-tails-reads
@@ -76,6 +77,8 @@ step-claims t = (
   grows-reads.Learnt,
   repeat-reads.Asked,
   repeat-reads.Learnt,
+  passed-reads.Asked,
+  passed-reads.Learnt,
   with-exponent-reads.Asked,
   with-exponent-reads.Learnt,
   level-below t,
@@ -333,6 +336,9 @@ step-repeat-requires t c κs =
     let x = step-sizes t s in
     (x .block, q .7 .3 .within, q .0 .holds, q .0 .most, omega (arith, q .0 .variables), omega (arith, q .2), omega (arith, q .2))
 
+step-passed-requires : (t : ℕ) → step-lts.Need-passed-requires (step-claims t) (step-at t) step.Post
+step-passed-requires t c κs = search needs
+
 step-same-length-3 : (t : ℕ) → step-lts.Need-same-length-3 (step-claims t) (step-at t) step.Post
 step-same-length-3 t c = search needs
 
@@ -345,14 +351,14 @@ step-same-length-5 t c = search needs
 -- no room for the block repeated
 step-returns-2 : (t : ℕ) → step-lts.Need-returns-2 (step-claims t) (step-at t) step.Post
 step-returns-2 t c =
-    let r = c .before .before .before .repeat in
-    let e = c .before .before .before .before .before in
+    let r = c .before .before .before .before .repeat in
+    let e = c .before .before .before .before .before .before in
     let d = step-tails t e in
     let k = d .take-tails in
     let s = step-start t d in (
       refl,
       λ T start P S. step-full S (s .pre .1 .0) (k .last .0) (k .kept .0) (k .ensures) (e .before .grows .ensures) (not-false _ (e .if1 .left)) (step-six t s)
-          (r .last .0) (r .ensures) (c .if2 .taken) _,
+          (r .last .0) (r .ensures) (c .before .if2 .taken) (c .passed .ensures),
     )
 
 -- no more generators than rows
@@ -370,36 +376,36 @@ step-with-exponent-requires : (t : ℕ) → step-lts.Need-with-exponent-requires
 step-with-exponent-requires t c κs = search needs
 
 -- the lent part of work begins behind the table
-step-sub-level : (t : ℕ) → step-lts.Need-sub-level (step-claims t) (step-at t) step.Post
-step-sub-level t c =
+step-sub-tails : (t : ℕ) → step-lts.Need-sub-tails (step-claims t) (step-at t) step.Post
+step-sub-tails t c =
     let d = step-tails t (step-grown t (c)) in
     let x = step-sizes t (step-start t d) in
     omega (arith, d .take-tails .kept .0)
 
-step-part-level-start : (t : ℕ) → step-lts.Need-part-level-start (step-claims t) (step-at t) step.Post
-step-part-level-start t c =
+step-part-tails-start : (t : ℕ) → step-lts.Need-part-tails-start (step-claims t) (step-at t) step.Post
+step-part-tails-start t c =
     let d = step-tails t (step-grown t (c)) in
     let x = step-sizes t (step-start t d) in
     omega (arith, d .take-tails .kept .0)
 
-step-part-level-end : (t : ℕ) → step-lts.Need-part-level-end (step-claims t) (step-at t) step.Post
-step-part-level-end t c = search needs
+step-part-tails-end : (t : ℕ) → step-lts.Need-part-tails-end (step-claims t) (step-at t) step.Post
+step-part-tails-end t c = search needs
 
 -- that of next behind the rows of the table
-step-mul-level : (t : ℕ) → step-lts.Need-mul-level (step-claims t) (step-at t) step.Post
-step-mul-level t c = let x = step-sizes t (step-start t (step-tails t (step-grown t (c .before)))) in omega arith
+step-mul-links : (t : ℕ) → step-lts.Need-mul-links (step-claims t) (step-at t) step.Post
+step-mul-links t c = let x = step-sizes t (step-start t (step-tails t (step-grown t (c .before)))) in omega arith
 
-step-sub-level-2 : (t : ℕ) → step-lts.Need-sub-level-2 (step-claims t) (step-at t) step.Post
-step-sub-level-2 t c = let x = step-sizes t (step-start t (step-tails t (step-grown t (c .before)))) in omega arith
+step-sub-links : (t : ℕ) → step-lts.Need-sub-links (step-claims t) (step-at t) step.Post
+step-sub-links t c = let x = step-sizes t (step-start t (step-tails t (step-grown t (c .before)))) in omega arith
 
-step-part-level-start-2 : (t : ℕ) → step-lts.Need-part-level-start-2 (step-claims t) (step-at t) step.Post
-step-part-level-start-2 t c = let x = step-sizes t (step-start t (step-tails t (step-grown t (c .before)))) in omega arith
+step-part-links-start : (t : ℕ) → step-lts.Need-part-links-start (step-claims t) (step-at t) step.Post
+step-part-links-start t c = let x = step-sizes t (step-start t (step-tails t (step-grown t (c .before)))) in omega arith
 
-step-part-level-end-2 : (t : ℕ) → step-lts.Need-part-level-end-2 (step-claims t) (step-at t) step.Post
-step-part-level-end-2 t c = search needs
+step-part-links-end : (t : ℕ) → step-lts.Need-part-links-end (step-claims t) (step-at t) step.Post
+step-part-links-end t c = search needs
 
-step-sub-level-3 : (t : ℕ) → step-lts.Need-sub-level-3 (step-claims t) (step-at t) step.Post
-step-sub-level-3 t c = search needs
+step-sub-level : (t : ℕ) → step-lts.Need-sub-level (step-claims t) (step-at t) step.Post
+step-sub-level t c = search needs
 
 -- one variable less, no more rows, and what is left of both arrays
 step-level-requires : (t : ℕ) → step-lts.Need-level-requires (step-claims t) (step-at t) step.Post
@@ -522,6 +528,7 @@ pub +level+step-spec : {M : Type 1} → statement M
     (step-add-k t)
     (step-sub-k t)
     (step-repeat-requires t)
+    (step-passed-requires t)
     (step-same-length-3 t)
     (step-same-length-4 t)
     (step-same-length-5 t)
@@ -529,14 +536,14 @@ pub +level+step-spec : {M : Type 1} → statement M
     (step-add-all t)
     (step-cast-with-exponent t)
     (step-with-exponent-requires t)
+    (step-sub-tails t)
+    (step-part-tails-start t)
+    (step-part-tails-end t)
+    (step-mul-links t)
+    (step-sub-links t)
+    (step-part-links-start t)
+    (step-part-links-end t)
     (step-sub-level t)
-    (step-part-level-start t)
-    (step-part-level-end t)
-    (step-mul-level t)
-    (step-sub-level-2 t)
-    (step-part-level-start-2 t)
-    (step-part-level-end-2 t)
-    (step-sub-level-3 t)
     (step-level-requires t)
     (step-settle-requires t)
     (step-same-length-6 t)

@@ -8,8 +8,11 @@ use Rattle.completion.proofs.CodeSettle.{settle-over, settle-keeps, set
 use Rattle.completion.proofs.settle.Statement.{statement}
 use Rattle.completion.proofs.settle.Tie as tie
 
+passed-requires : tie.Need-passed-requires
+passed-requires c κs = search needs
+
 returns : tie.Need-returns
-returns c = settle-over (omega arith)
+returns c = settle-over (omega arith) (c .passed .ensures)
 
 sub-count : tie.Need-sub-count
 sub-count c = search needs
@@ -33,4 +36,4 @@ returns-3 c = let k = c .before .before .compact in
     settle-takes (omega arith) (omega arith) (omega arith) (omega arith) (omega arith) (omega arith) (k .last .0) (k .ensures)
 
 pub settle-spec : {M : Type 1} → statement M
-settle-spec = tie.close (tie.spec returns sub-count returns-2 compact-requires same-length returns-3)
+settle-spec = tie.close (tie.spec passed-requires returns sub-count returns-2 compact-requires same-length returns-3)

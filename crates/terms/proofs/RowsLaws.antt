@@ -1,7 +1,7 @@
 -- Laws of rows as bytes.
 --
 --   length-rows, rows-at, rows-size   how many rows the bytes are, row r of them, and that each has n exponents
---   rows-flat, flat-rows   rows of bytes that were written from a table, and the bytes again
+--   rows-flat, flat-rows, flat-firstRows   rows of bytes that were written from a table, and the bytes again
 --   member-at, member-index   a row by its number, and the number of a row
 --   row-fits               a row below the count lies within the bytes
 --   zeros-at               of a list of zeros each exponent is 0
@@ -121,7 +121,7 @@ rows-flat n G p z =
     let e : flat G ++ [] ≡ flat G = append-nil (flat G) in
     ap (λ (k : ℕ). firstRows n k (flat G)) c ∙ rw e at (firstRows-flat n G [] z)
 
-flat-firstRows : (n k : ℕ) (t : List ℕ) → flat (firstRows n k t) ≡ take (k * n) t
+pub flat-firstRows : (n k : ℕ) (t : List ℕ) → flat (firstRows n k t) ≡ take (k * n) t
 unfolding firstRows flat
 flat-firstRows n zero t = let e : 0 * n ≡ 0 = omega arith in rw e
 flat-firstRows n (suc k) t =

@@ -5,7 +5,7 @@
 --   steps-small     steps are at most 256 for each variable
 --   steady-small    a steady degree is at most 300
 --   located-small   n, row count and place of an opened table are below 65,536
-use mathlib.Core.Path.{_≡_, refl, sym, ap, _∙_}
+use mathlib.Core.Path.{_≡_, refl, sym, ap, _∙_, subst}
 use mathlib.Core.List.{List}
 use mathlib.Core.Logic.{by-cases}
 use Prim.Native.Nat.{ℕ, _≤_, _<_}
@@ -24,13 +24,16 @@ use Rattle.division.specs.Finding.{FindPromise, findChecks, findNumber, findSte
 use Rattle.division.specs.Inside.{InsidePromise, insideChecks}
 use Rattle.division.specs.declared.finding.FindAnswer.{FindAnswer}
 use Rattle.division.specs.declared.finding.FindAnswer.the-variants.{Row}
+use Rattle.division.specs.declared.inside.InsideAnswer.{InsideAnswer}
 use Rattle.division.specs.declared.inside.InsideAnswer.the-variants as inside
 use Rattle.division.proofs.FindLaws.{find-finds, find-steps, find-ready, find-length}
 use Rattle.division.proofs.InsideLaws.{inside-passed, inside-finds}
 use Rattle.completion.specs.Operation.{CompletePromise}
+use Rattle.completion.specs.declared.CompleteAnswer.{CompleteAnswer}
 use Rattle.completion.specs.declared.CompleteAnswer.the-variants as complete
 use Rattle.completion.proofs.OperationLaws.{complete-count, accepted-room, room-limited}
-use Rattle.counting.specs.Operations.{SteadyPromise, steadyChecks, steadyValue}
+use Rattle.counting.specs.Operations.{SteadyPromise, steadyChecks, steadyNumber, steadyValue}
+use Rattle.counting.specs.declared.SteadyAnswer.{SteadyAnswer}
 use Rattle.counting.specs.declared.SteadyAnswer.the-variants as steady
 use Rattle.counting.proofs.PolynomialLaws.{steady-most}
 use Rattle.counting.proofs.OperationLaws.{steady-checked}
@@ -42,26 +45,28 @@ use Rattle.bundle.proofs.ReadLaws.{opened-is, refused-is, open-accepted}
 
 -- ---- find
 
-pub row-small : (n : ℕ) (table query : List ℕ) (r : RowNumber) (k : ℕ) → FindPromise n table query (Row r k) → r .0 < 4096
-row-small n table query r k p =
+pub row-small : {n : ℕ} {table query : List ℕ} {answer : FindAnswer} {r : RowNumber} {k : ℕ} → FindPromise n table query answer → answer ≡ Row r k
+    → r .0 < 4096
+row-small {n} {table} {query} {answer} {r} {k} q e =
+    let p : FindPromise n table query (Row r k) = subst (λ (a : FindAnswer). FindPromise n table query a) e q in
     let z : refusal (findChecks n table query) ≡ 0 = sym (p .number) in
     omega (arith, find-finds n table query (Row r k) p z .within, find-ready n table query z .limited)
 
--- an answer has the steps of the descent, at most degree plus n; a refusal has none
-pub steps-small : (n : ℕ) (table query : List ℕ) (answer : FindAnswer) → ((i : ℕ) → getD query i 0 < 256) → FindPromise n table query answer
-    → findNumber answer ≡ 0 → findSteps answer ≤ 1536
-steps-small n table query answer h p e =
-    let z : refusal (findChecks n table query) ≡ 0 = sym (p .number) ∙ e in
+-- an answer has the steps of the descent, at most degree plus n
+pub steps-small : {n : ℕ} {table query : List ℕ} {answer a : FindAnswer} → ((i : ℕ) → getD query i 0 < 256) → FindPromise n table query answer
+    → answer ≡ a → findNumber a ≡ 0 → findSteps a ≤ 1536
+steps-small {n} {table} {query} {answer} h p e f =
+    let z : refusal (findChecks n table query) ≡ 0 = sym (p .number) ∙ ap findNumber e ∙ f in
     let few = degree-most 255 query (most-by 255 query (λ i. le-of-suc-le-suc (h i))) in
-    omega (arith, find-steps n table query answer p z, few, find-length n table query z, find-ready n table query z .few)
+    omega (arith, ap findSteps e, find-steps n table query answer p z, few, find-length n table query z, find-ready n table query z .few)
 
 -- ---- steady
 
-pub steady-small : (n : ℕ) (table : List ℕ) (d : Degree) → SteadyPromise n table (steady.At d) → d .0 ≤ 300
-steady-small n table d p =
-    let z : refusal (steadyChecks n table) ≡ 0 = sym (p .number) in
+pub steady-small : {n : ℕ} {table : List ℕ} {answer : SteadyAnswer} {d : Degree} → SteadyPromise n table answer → answer ≡ steady.At d → d .0 ≤ 300
+steady-small {n} {table} p e =
+    let z : refusal (steadyChecks n table) ≡ 0 = sym (p .number) ∙ ap steadyNumber e in
     let t = steady-checked n table z .accepted in
-    omega (arith, ap steadyValue (p .value z), steady-most n 50 (rows n table) (rows-size n table) (rows-small n table t), t .few)
+    omega (arith, ap steadyValue e, ap steadyValue (p .value z), steady-most n 50 (rows n table) (rows-size n table) (rows-small n table t), t .few)
 
 -- ---- open
 
@@ -89,13 +94,17 @@ located-small b j r p = by-cases (ℕ-discrete (refusal (openChecks b j)) 0)
 
 -- ---- inside
 
-pub inside-small : (n : ℕ) (table query : List ℕ) (r : RowNumber) → InsidePromise n table query (inside.Row r) → r .0 < 4096
-inside-small n table query r p =
+pub inside-small : {n : ℕ} {table query : List ℕ} {answer : InsideAnswer} {r : RowNumber} → InsidePromise n table query answer → answer ≡ inside.Row r
+    → r .0 < 4096
+inside-small {n} {table} {query} {answer} {r} q e =
+    let p : InsidePromise n table query (inside.Row r) = subst (λ (a : InsideAnswer). InsidePromise n table query a) e q in
     let z : refusal (insideChecks n table query) ≡ 0 = sym (p .number) in
     omega (arith, inside-finds n table query z (inside.Row r) p .within, inside-passed n table query z .limited)
 
 -- ---- complete
 
-pub count-small : (n : ℕ) (table buffer : List ℕ) (k : ℕ) (after : List ℕ) → CompletePromise n table buffer (complete.Rows k) after → k ≤ 4096
-count-small n table buffer k after p =
+pub count-small : {n : ℕ} {table buffer after : List ℕ} {answer : CompleteAnswer} {k : ℕ} → CompletePromise n table buffer answer after
+    → answer ≡ complete.Rows k → k ≤ 4096
+count-small {n} {table} {buffer} {after} {answer} {k} q e =
+    let p : CompletePromise n table buffer (complete.Rows k) after = subst (λ (a : CompleteAnswer). CompletePromise n table buffer a after) e q in
     omega (arith, complete-count p, accepted-room n table (length buffer) (sym (p .number)), room-limited n (length buffer))

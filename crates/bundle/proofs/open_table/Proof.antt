@@ -19,7 +19,8 @@ use prog.Wp.{Heap, Calls, Loops, WpFn, Tables}
 use ghost.Atoms.{Atoms, sem}
 use contract.Monad.{Fun, fact}
 use contract.Running.{givenOf, tables, tablesOf}
-use types.Kit.{Given, ‵, raw, _⊛_, ⋆, some, later, _$_, _∵_, !, qed, by, move, drop, use1, use2, rewrite, split, join, pick, fsplit, fjoin, suffices, frame, await, done}
+use types.Kit.{Given, ‵, raw, _⊛_, ⋆, some, later, _$_, _∵_, !, qed, by, move}
+use types.Kit.{drop, use1, use2, rewrite, split, join, pick, fsplit, fjoin, suffices, frame, await, done}
 use types.Part.{whole, sub, look-in, agg}
 use types.Run.{look, init, forget, stop, fld, from, load, and-then, no-more, assigns, land, returns, enter, alloc1, alloc0, params1, pass1, pass0, free1, free0}
 use sound.WpLaws.{FmC, fmOf, WpFn-mono}
@@ -73,7 +74,8 @@ module _ {M : Type 1} (𝓤 : URA M) (H : Heap 𝓤) (A : Atoms 𝓤) (mem : Mem
   abbrev Part : Contract 𝓤
   Part = tripleOf 𝓤 H A part.signature (part.spec 𝓤 H A mem run)
 
-module _ {M : Type 1} (𝓤 : URA M) (H : Heap 𝓤) (A : Atoms 𝓤) (W : Given 𝓤 H A) (mem : Memory → SProp 𝓤) (run : Routine → Fun 𝓤) (κ : Lft) (q : Share) (s : RefT (List ℕ)) (j : ℕ) (ok : j < 2 ^ 64) where
+module _ {M : Type 1} (𝓤 : URA M) (H : Heap 𝓤) (A : Atoms 𝓤) (W : Given 𝓤 H A) (mem : Memory → SProp 𝓤) (run : Routine → Fun 𝓤) (κ : Lft) (q : Share)
+    (s : RefT (List ℕ)) (j : ℕ) (ok : j < 2 ^ 64) where
   abbrev α : NamedLft
   α = namedLft 1 0 tt (κ, tt)
 
@@ -99,7 +101,8 @@ module _ {M : Type 1} (𝓤 : URA M) (H : Heap 𝓤) (A : Atoms 𝓤) (W : Given
       qed W ((‵ (flft κ q) ⊛ ‵ ftrue) ∷ ‵ Own ∷ []) ∵
       move ! (1 ∷ []) $ use1 W (‵ Own ⊛ ‵ Own) (shr-slice-copy 𝓤 H A W (named 0) κ u8 .twice s (v ∷ [])) $ split ! $
       nothing ! $ owned ! usize (Is usize) (uint-makes 𝓤 H A W w64) j _ (refl, ok) $ fjoin ! $ move ! (1 ∷ 0 ∷ []) $ fjoin ! $ move ! (2 ∷ 0 ∷ []) $
-      use2 W (raw (Locate 𝓤 H A mem run .pre to-locate)) (qed W ((‵ (flft κ q) ⊛ ‵ ftrue) ∷ ‵ (owns (ShrSlice (named 0) κ u8 ∷ usize ∷ []) (s, (j, tt)) at) ∷ []) ∵ join ! $ frame ! $ done !) $ frame ! $ done !
+      use2 W (raw (Locate 𝓤 H A mem run .pre to-locate))
+      (qed W ((‵ (flft κ q) ⊛ ‵ ftrue) ∷ ‵ (owns (ShrSlice (named 0) κ u8 ∷ usize ∷ []) (s, (j, tt)) at) ∷ []) ∵ join ! $ frame ! $ done !) $ frame ! $ done !
 
   locate-said : (f : Located) → ent 𝓤 (ensured 𝓤 H A locate.ended (locate.clauses 𝓤 H A mem run) (κ, tt) (s, (j, tt)) tt f) (fact 𝓤 (LocatePromise (now s) j f))
   locate-said f = exE 𝓤 _ (λ ws. snd∗ 𝓤 (sem 𝓤 H A (lasts locate.ended (κ, tt) (s, (j, tt)) ws)) (fact 𝓤 (LocatePromise (now s) j f)))
@@ -111,14 +114,19 @@ module _ {M : Type 1} (𝓤 : URA M) (H : Heap 𝓤) (A : Atoms 𝓤) (W : Given
   abbrev to-part : Located → Part 𝓤 H A mem run .Ghost
   to-part f = (((κ, tt), (q, tt), tt, (s, (f, tt)), passed f), tt)
 
-  goes-part : (f : Located) → FoundWithin (now s) f → Is S.the-row f (S′.lowered f ∷ []) → ent 𝓤 (⋆ 𝓤 H A ((‵ (flft κ q) ⊛ ‵ ftrue) ∷ ‵ Own ∷ [])) (sep 𝓤 (Part 𝓤 H A mem run .pre (to-part f)) (sem 𝓤 H A Own))
+  goes-part : (f : Located) → FoundWithin (now s) f → Is S.the-row f (S′.lowered f ∷ [])
+      → ent 𝓤 (⋆ 𝓤 H A ((‵ (flft κ q) ⊛ ‵ ftrue) ∷ ‵ Own ∷ [])) (sep 𝓤 (Part 𝓤 H A mem run .pre (to-part f)) (sem 𝓤 H A Own))
   goes-part f within is =
       qed W ((‵ (flft κ q) ⊛ ‵ ftrue) ∷ ‵ Own ∷ []) ∵
       move ! (1 ∷ []) $ use1 W (‵ Own ⊛ ‵ Own) (shr-slice-copy 𝓤 H A W (named 0) κ u8 .twice s (v ∷ [])) $ split ! $
-      nothing ! $ owned ! S.the-row (Is S.the-row) (LL.makes S.the-type S′.the-plain 𝓤 H A) f _ is $ fjoin ! $ move ! (1 ∷ 0 ∷ []) $ fjoin ! $ move ! (2 ∷ 0 ∷ []) $
-      use2 W (raw (Part 𝓤 H A mem run .pre (to-part f))) (qed W ((‵ (flft κ q) ⊛ ‵ ftrue) ∷ ‵ (owns (ShrSlice (named 0) κ u8 ∷ S.the-row ∷ []) (s, (f, tt)) (passed f)) ∷ []) ∵ says ! within $ frame ! $ done !) $ frame ! $ done !
+      nothing ! $ owned ! S.the-row (Is S.the-row) (LL.makes S.the-type S′.the-plain 𝓤 H A) f _ is $ fjoin ! $ move ! (1 ∷ 0 ∷ []) $ fjoin ! $
+      move ! (2 ∷ 0 ∷ []) $
+      use2 W (raw (Part 𝓤 H A mem run .pre (to-part f)))
+      (qed W ((‵ (flft κ q) ⊛ ‵ ftrue) ∷ ‵ (owns (ShrSlice (named 0) κ u8 ∷ S.the-row ∷ []) (s, (f, tt)) (passed f)) ∷ []) ∵
+      says ! within $ frame ! $ done !) $ frame ! $ done !
 
-  part-said : (f : Located) (r : RefT (List ℕ)) → ent 𝓤 (ensured 𝓤 H A part.ended (part.clauses 𝓤 H A mem run) (κ, tt) (s, (f, tt)) tt r) (fact 𝓤 (PartOf s (f .place) (f .rows * f .n) r))
+  part-said : (f : Located) (r : RefT (List ℕ))
+      → ent 𝓤 (ensured 𝓤 H A part.ended (part.clauses 𝓤 H A mem run) (κ, tt) (s, (f, tt)) tt r) (fact 𝓤 (PartOf s (f .place) (f .rows * f .n) r))
   part-said f r = exE 𝓤 _ (λ ws. snd∗ 𝓤 (sem 𝓤 H A (lasts part.ended (κ, tt) (s, (f, tt)) ws)) (fact 𝓤 (PartOf s (f .place) (f .rows * f .n) r)))
 
   -- what was found, at the machine value that it has: its fields fit
@@ -136,34 +144,46 @@ module _ {M : Type 1} (𝓤 : URA M) (H : Heap 𝓤) (A : Atoms 𝓤) (W : Given
       → ent 𝓤 (⋆ 𝓤 H A ((‵ (flft κ q) ⊛ ‵ ftrue) ∷ ‵ Own ∷ ‵ (ShrSlice (named 0) κ u8 .own r (slice-vals r)) ∷ [])) (Post (T′.lowered (made f r)))
   exits f r e n-fits rows-fits refusal-fits =
       qed W ((‵ (flft κ q) ⊛ ‵ ftrue) ∷ ‵ Own ∷ ‵ (ShrSlice (named 0) κ u8 .own r (slice-vals r)) ∷ []) ∵
-      suffices ! _ (ends-at 𝓤 H A opened.ended stayed (opened.clauses 𝓤 H A mem run) W (((κ, tt), (q, tt), tt, (s, (j, tt)), at), tt) (T′.lowered (made f r)) (made f r) (tt, (tt, tt)) (tt, (tt, tt))) $ says ! e $
+      suffices ! _ (ends-at 𝓤 H A opened.ended stayed (opened.clauses 𝓤 H A mem run) W (((κ, tt), (q, tt), tt, (s, (j, tt)), at), tt)
+      (T′.lowered (made f r)) (made f r) (tt, (tt, tt)) (tt, (tt, tt))) $ says ! e $
       frame ! $ nothing ! $ owned ! usize (Is usize) (uint-makes 𝓤 H A W w64) j _ (refl, ok) $ fjoin ! $ move ! (1 ∷ 0 ∷ []) $ fjoin ! $ frame ! $
       -- [what bytes owns]: what the fields own together is what the struct owns
-      nothing ! $ owned ! u8 (Is u8) (uint-makes 𝓤 H A W w8) (f .refusal) _ (refl, refusal-fits) $ fjoin ! $ owned ! usize (Is usize) (uint-makes 𝓤 H A W w64) (f .rows) _ (refl, rows-fits) $ fjoin ! $
+      nothing ! $ owned ! u8 (Is u8) (uint-makes 𝓤 H A W w8) (f .refusal) _ (refl, refusal-fits) $ fjoin ! $
+      owned ! usize (Is usize) (uint-makes 𝓤 H A W w64) (f .rows) _ (refl, rows-fits) $ fjoin ! $
       owned ! usize (Is usize) (uint-makes 𝓤 H A W w64) (f .n) _ (refl, n-fits) $ fjoin ! $ move ! (1 ∷ 0 ∷ []) $ fjoin ! $
       by ! (own-shut 𝓤 H A W (T.the-type α) (T′.the-laws α) (r, (f .n, (f .rows, (f .refusal, tt)))))
 
-  module _ (C : Calls 𝓤 H) (Λ : Loops 𝓤 H) (fm : FmC 𝓤 H (W .laws) C) (known-locate : Triple 𝓤 (C #bundle·locate) (Locate 𝓤 H A mem run)) (known-part : Triple 𝓤 (C #bundle·part) (Part 𝓤 H A mem run)) where
-    walk : Is (ShrSlice (named 0) κ u8) s (v ∷ []) → ent 𝓤 (onEntry 𝓤 H A opened.signature (κ, tt) (q, tt) (s, (j, tt)) at) (WpFn 𝓤 H C Λ code.function (v ∷ vint w64 j ∷ []) Post)
+  module _ (C : Calls 𝓤 H) (Λ : Loops 𝓤 H) (fm : FmC 𝓤 H (W .laws) C) (known-locate : Triple 𝓤 (C #bundle·locate) (Locate 𝓤 H A mem run))
+      (known-part : Triple 𝓤 (C #bundle·part) (Part 𝓤 H A mem run)) where
+    walk : Is (ShrSlice (named 0) κ u8) s (v ∷ [])
+        → ent 𝓤 (onEntry 𝓤 H A opened.signature (κ, tt) (q, tt) (s, (j, tt)) at) (WpFn 𝓤 H C Λ code.function (v ∷ vint w64 j ∷ []) Post)
     walk p =
-        qed W ((‵ (flft κ q) ⊛ ‵ ftrue) ∷ ‵ (owns (ShrSlice (named 0) κ u8 ∷ usize ∷ []) (s, (j, tt)) at) ∷ []) ∵ enter ! C Λ code.function (v ∷ vint w64 j ∷ []) _ $
+        qed W ((‵ (flft κ q) ⊛ ‵ ftrue) ∷ ‵ (owns (ShrSlice (named 0) κ u8 ∷ usize ∷ []) (s, (j, tt)) at) ∷ []) ∵
+        enter ! C Λ code.function (v ∷ vint w64 j ∷ []) _ $
         alloc1 ! (λ l₀. alloc1 ! (λ l₁. alloc1 ! (λ l₂. alloc1 ! (λ l₃. alloc1 ! (λ l₄. alloc0 ! $ params1 ! $
-        pass1 ! (init ! 6 refl (shr-slice-lawful 𝓤 H A W (named 0) κ u8 .typed s (v ∷ []) p .0)) $ pass1 ! (init ! 4 refl (tt, record { fits = ok })) $ pass0 ! $
+        pass1 ! (init ! 6 refl (shr-slice-lawful 𝓤 H A W (named 0) κ u8 .typed s (v ∷ []) p .0)) $ pass1 ! (init ! 4 refl (tt, record { fits = ok })) $
+        pass0 ! $
         -- [_4; …; _3; …; _2; …; _1; …; room for _0; …; the token; what the bundle and j own]
         move ! (11 ∷ []) $ fsplit ! $ move ! (1 ∷ []) $ drop ! $ move ! (11 ∷ 0 ∷ []) $
         use2 W (raw (Locate 𝓤 H A mem run .pre to-locate) ⊛ ‵ Own) goes-locate $ split ! $
-        calls-at ! fm (Locate 𝓤 H A mem run) known-locate to-locate (and-then ! (load ! (from ! (stop !)) (look ! 8 refl)) (and-then ! (load ! (from ! (stop !)) (look ! 6 refl)) (no-more !))) (λ u.
-        use1 W (later (some (λ (f : Located). ((‵ (flft κ q) ⊛ ‵ ftrue) ⊛ ‵ (S.the-row .own f (u ∷ []))) ⊛ raw (ensured 𝓤 H A locate.ended (locate.clauses 𝓤 H A mem run) (κ, tt) (s, (j, tt)) tt f)))) (id⊢ 𝓤 _) $ await ! tt $ pick ! (λ f.
-        split ! $ move ! (1 ∷ []) $ use1 W (raw (fact 𝓤 (LocatePromise (now s) j f))) (locate-said f) $ heard ! (LocatePromise (now s) j f) (λ e. split ! $ move ! (1 ∷ []) $
+        calls-at ! fm (Locate 𝓤 H A mem run) known-locate to-locate
+        (and-then ! (load ! (from ! (stop !)) (look ! 8 refl)) (and-then ! (load ! (from ! (stop !)) (look ! 6 refl)) (no-more !))) (λ u.
+        use1 W (later (some (λ (f : Located). ((‵ (flft κ q) ⊛ ‵ ftrue) ⊛ ‵ (S.the-row .own f (u ∷ []))) ⊛ raw
+        (ensured 𝓤 H A locate.ended (locate.clauses 𝓤 H A mem run) (κ, tt) (s, (j, tt)) tt f)))) (id⊢ 𝓤 _) $ await ! tt $ pick ! (λ f.
+        split ! $ move ! (1 ∷ []) $ use1 W (raw (fact 𝓤 (LocatePromise (now s) j f))) (locate-said f) $
+        heard ! (LocatePromise (now s) j f) (λ e. split ! $ move ! (1 ∷ []) $
         -- [what found owns; the token; what the bundle owns; _4; …; _3; …; _2; …; _1; …; room for _0; …]
         peeks ! S.the-row (Is S.the-row) (shows 𝓤 H A S.the-row) f (u ∷ []) (λ is.
         land ! (from ! (stop !)) (init ! 5 refl (LL.lawful S.the-type S′.the-laws 𝓤 H A W .typed f _ is .0)) $
         rewrite ! 5 (λ (x : Val). ‵ (fat fullShare S′.mir l₃ 0 x)) (ap only (LL.tells S.the-type S′.the-laws f (u ∷ []) is)) refl $ drop ! $
         -- [the token; what the bundle owns; _4; …; _3; …; _2; …; _1; …; room for _0; …]
         use2 W (raw (Part 𝓤 H A mem run .pre (to-part f)) ⊛ ‵ Own) (goes-part f (found-within (now s) j f e) (at-value f u is)) $ split ! $
-        calls-at ! fm (Part 𝓤 H A mem run) known-part (to-part f) (and-then ! (load ! (from ! (stop !)) (look ! 8 refl)) (and-then ! (load ! (from ! (stop !)) (look ! 4 refl)) (no-more !))) (λ u₁.
-        use1 W (later (some (λ (r : RefT (List ℕ)). ((‵ (flft κ q) ⊛ ‵ ftrue) ⊛ ‵ ((ShrSlice (named 0) κ u8) .own r (u₁ ∷ []))) ⊛ raw (ensured 𝓤 H A part.ended (part.clauses 𝓤 H A mem run) (κ, tt) (s, (f, tt)) tt r)))) (id⊢ 𝓤 _) $ await ! tt $ pick ! (λ r.
-        split ! $ move ! (1 ∷ []) $ use1 W (raw (fact 𝓤 (PartOf s (f .place) (f .rows * f .n) r))) (part-said f r) $ heard ! (PartOf s (f .place) (f .rows * f .n) r) (λ e₁. split ! $ move ! (1 ∷ []) $
+        calls-at ! fm (Part 𝓤 H A mem run) known-part (to-part f)
+        (and-then ! (load ! (from ! (stop !)) (look ! 8 refl)) (and-then ! (load ! (from ! (stop !)) (look ! 4 refl)) (no-more !))) (λ u₁.
+        use1 W (later (some (λ (r : RefT (List ℕ)). ((‵ (flft κ q) ⊛ ‵ ftrue) ⊛ ‵ ((ShrSlice (named 0) κ u8) .own r (u₁ ∷ []))) ⊛ raw
+        (ensured 𝓤 H A part.ended (part.clauses 𝓤 H A mem run) (κ, tt) (s, (f, tt)) tt r)))) (id⊢ 𝓤 _) $ await ! tt $ pick ! (λ r.
+        split ! $ move ! (1 ∷ []) $ use1 W (raw (fact 𝓤 (PartOf s (f .place) (f .rows * f .n) r))) (part-said f r) $
+        heard ! (PartOf s (f .place) (f .rows * f .n) r) (λ e₁. split ! $ move ! (1 ∷ []) $
         -- [what bytes owns; the token; what the bundle owns; _4; …; _3; …; _2; …; _1; …; room for _0; …]
         peeks ! (ShrSlice (named 0) κ u8) (Is (ShrSlice (named 0) κ u8)) (shows 𝓤 H A (ShrSlice (named 0) κ u8)) r (u₁ ∷ []) (λ is₁.
         land ! (from ! (stop !)) (init ! 3 refl (shr-slice-lawful 𝓤 H A W erased κ u8 .typed r (u₁ ∷ []) is₁ .0)) $
@@ -171,22 +191,40 @@ module _ {M : Type 1} (𝓤 : URA M) (H : Heap 𝓤) (A : Atoms 𝓤) (W : Given
         rewrite ! 0 (λ (vs : List Val). ‵ (ShrSlice (named 0) κ u8 .own r vs)) (is₁ .0 .0) refl $
         move ! (1 ∷ 2 ∷ []) $
         -- [the token; what the bundle owns; what bytes owns; _4; …; _3; …; _2; …; _1; …; room for _0; …]
-        assigns ! (agg ! (and-then ! (load ! (from ! (stop !)) (look ! 3 refl)) (and-then ! (load ! (from ! (fld ! refl (stop !))) (look-in ! 5 (sub ! 1 refl (whole !)))) (and-then ! (load ! (from ! (fld ! refl (stop !))) (look-in ! 5 (sub ! 2 refl (whole !)))) (and-then ! (load ! (from ! (fld ! refl (stop !))) (look-in ! 5 (sub ! 0 refl (whole !)))) (no-more !)))))) (from ! (stop !))
-        (init ! 11 refl (tt, (shr-slice-lawful 𝓤 H A W (named 0) κ u8 .typed r (slice-vals r) (subst (Is (ShrSlice (named 0) κ u8) r) (is₁ .0 .0) is₁) .0 .1, (wt f u is .1 .1 .0, (wt f u is .1 .1 .1 .0, (wt f u is .1 .0, tt)))))) $
+        assigns ! (agg ! (and-then ! (load ! (from ! (stop !)) (look ! 3 refl))
+        (and-then ! (load ! (from ! (fld ! refl (stop !))) (look-in ! 5 (sub ! 1 refl (whole !))))
+        (and-then ! (load ! (from ! (fld ! refl (stop !))) (look-in ! 5 (sub ! 2 refl (whole !))))
+        (and-then ! (load ! (from ! (fld ! refl (stop !))) (look-in ! 5 (sub ! 0 refl (whole !)))) (no-more !)))))) (from ! (stop !))
+        (init ! 11 refl (
+          tt,
+          (
+            shr-slice-lawful 𝓤 H A W (named 0) κ u8 .typed r (slice-vals r)
+                (subst (Is (ShrSlice (named 0) κ u8) r) (is₁ .0 .0) is₁) .0 .1,
+            (wt f u is .1 .1 .0, (wt f u is .1 .1 .1 .0, (wt f u is .1 .0, tt))),
+          ),
+        )) $
         returns ! (look ! 11 refl) $ forget ! 3 refl $ forget ! 5 refl $ forget ! 7 refl $ forget ! 9 refl $ forget ! 11 refl $
-        move ! (11 ∷ 12 ∷ []) $ free1 ! $ move ! (9 ∷ 10 ∷ []) $ free1 ! $ move ! (7 ∷ 8 ∷ []) $ free1 ! $ move ! (5 ∷ 6 ∷ []) $ free1 ! $ move ! (3 ∷ 4 ∷ []) $ free1 ! $ free0 ! $
+        move ! (11 ∷ 12 ∷ []) $ free1 ! $ move ! (9 ∷ 10 ∷ []) $ free1 ! $ move ! (7 ∷ 8 ∷ []) $ free1 ! $ move ! (5 ∷ 6 ∷ []) $ free1 ! $
+        move ! (3 ∷ 4 ∷ []) $ free1 ! $ free0 ! $
         by ! (exits f r (opens s j f r e e₁) (wt f u is .1 .1 .0 .fits) (wt f u is .1 .1 .1 .0 .fits) (wt f u is .1 .0 .fits)))))))))))))))
 
 module _ {M : Type 1} (𝓤 : URA M) (H : Heap 𝓤) (A : Atoms 𝓤) (W : Given 𝓤 H A) (mem : Memory → SProp 𝓤) (run : Routine → Fun 𝓤) where
-  open-table-walks : (C : Calls 𝓤 H) (Λ : Loops 𝓤 H) → FmC 𝓤 H (W .laws) C → Triple 𝓤 (C #bundle·locate) (Locate 𝓤 H A mem run) → Triple 𝓤 (C #bundle·part) (Part 𝓤 H A mem run)
+  open-table-walks : (C : Calls 𝓤 H) (Λ : Loops 𝓤 H) → FmC 𝓤 H (W .laws) C → Triple 𝓤 (C #bundle·locate) (Locate 𝓤 H A mem run)
+      → Triple 𝓤 (C #bundle·part) (Part 𝓤 H A mem run)
       → Walks 𝓤 H A opened.ended stayed (WpFn 𝓤 H C Λ code.function) (opened.clauses 𝓤 H A mem run)
-  open-table-walks C Λ fm known-locate known-part = walked 𝓤 H A opened.ended stayed (opened.clauses 𝓤 H A mem run) (WpFn 𝓤 H C Λ code.function) (λ κs. (slice-vals, (uint-vals w64, tt))) (λ κs. (shr-slice-tells (named 0) (κs .0) u8, (uint-tells w64, tt)))
-      (λ κs qs bounds a g are. via 𝓤 _ (fst∗ 𝓤 _ (emp 𝓤)) (walk 𝓤 H A W mem run (κs .0) (qs .0) (a .0) (a .1 .0) (are .1 .0 .1) C Λ fm known-locate known-part (are .0)))
+  open-table-walks C Λ fm known-locate known-part =
+      walked 𝓤 H A opened.ended stayed (opened.clauses 𝓤 H A mem run) (WpFn 𝓤 H C Λ code.function) (λ κs. (slice-vals, (uint-vals w64, tt)))
+      (λ κs. (shr-slice-tells (named 0) (κs .0) u8, (uint-tells w64, tt)))
+      (λ κs qs bounds a g are. via 𝓤 _ (fst∗ 𝓤 _ (emp 𝓤))
+      (walk 𝓤 H A W mem run (κs .0) (qs .0) (a .0) (a .1 .0) (are .1 .0 .1) C Λ fm known-locate known-part (are .0)))
 
 open-table-meets : {M : Type 1} (𝓤 : URA M) (H : Heap 𝓤) (A : Atoms 𝓤) (W : Given 𝓤 H A) (mem : Memory → SProp 𝓤) (run : Routine → Fun 𝓤) (𝓣 : Tables 𝓤 H)
     → Triple 𝓤 (𝓣 .C #bundle·locate) (Locate 𝓤 H A mem run) → Triple 𝓤 (𝓣 .C #bundle·part) (Part 𝓤 H A mem run)
     → Meets 𝓤 H A opened.signature (WpFn 𝓤 H (𝓣 .C) (𝓣 .Λ) code.function) (opened.spec 𝓤 H A mem run)
-open-table-meets 𝓤 H A W mem run 𝓣 known-locate known-part = walk-meets 𝓤 H A opened.ended stayed W (goes-none-slice 𝓤 H A W 1 (0 ∷ []) tt (plain (λ _. u8)) yes, (goes-none 𝓤 H A W 1 (λ _. usize) yes (λ κs x f. refl), tt)) (opened.clauses 𝓤 H A mem run) (WpFn 𝓤 H (𝓣 .C) (𝓣 .Λ) code.function) (WpFn-mono 𝓤 H (W .laws) 𝓣 code.function)
+open-table-meets 𝓤 H A W mem run 𝓣 known-locate known-part =
+    walk-meets 𝓤 H A opened.ended stayed W
+    (goes-none-slice 𝓤 H A W 1 (0 ∷ []) tt (plain (λ _. u8)) yes, (goes-none 𝓤 H A W 1 (λ _. usize) yes (λ κs x f. refl), tt))
+    (opened.clauses 𝓤 H A mem run) (WpFn 𝓤 H (𝓣 .C) (𝓣 .Λ) code.function) (WpFn-mono 𝓤 H (W .laws) 𝓣 code.function)
     (open-table-walks 𝓤 H A W mem run (𝓣 .C) (𝓣 .Λ) (fmOf 𝓤 H (W .laws) 𝓣) known-locate known-part)
 
 pub open-table-spec : {M : Type 1} → stated.statement M

@@ -1,7 +1,6 @@
 -- The numbers are those of the answer that count gave.
-use mathlib.Core.Path.{sym, ap}
 use borrow.Author.Needs.{needs}
-use Rattle.counting.specs.Operations.{countNumber, countValue}
+use Rattle.interface.proofs.ExportLaws.{count-out}
 use Rattle.interface.proofs.rocaplanh_count.Statement.{statement}
 use Rattle.interface.proofs.rocaplanh_count.Tie as tie
 
@@ -18,16 +17,10 @@ cast-result : tie.Need-cast-result
 cast-result c = search needs
 
 returns : tie.Need-returns
-returns c =
-    let r = c .before .before .before .count in
-    let e = c .before .answer .given .1 in
-    record { answer = r .result; promise = r .ensures; returned = sym (ap countNumber e); counted = sym (ap countValue e) }
+returns c = count-out (c .before .before .before .count .ensures) (c .before .answer .given .1)
 
 returns-2 : tie.Need-returns-2
-returns-2 c =
-    let r = c .before .before .before .count in
-    let e = c .before .answer2 .given .1 in
-    record { answer = r .result; promise = r .ensures; returned = sym (ap countNumber e); counted = sym (ap countValue e) }
+returns-2 c = count-out (c .before .before .before .count .ensures) (c .before .answer2 .given .1)
 
 pub rocaplanh-count-spec : {M : Type 1} → statement M
 rocaplanh-count-spec =

@@ -1,7 +1,6 @@
 -- The number is that of the answer that marks gave, and the buffer is as marks left it.
-use mathlib.Core.Path.{sym, ap}
 use borrow.Author.Needs.{needs}
-use Rattle.division.specs.Marking.{marksNumber}
+use Rattle.interface.proofs.ExportLaws.{marks-out}
 use Rattle.interface.proofs.rocaplanh_marks.Statement.{statement}
 use Rattle.interface.proofs.rocaplanh_marks.Tie as tie
 
@@ -21,19 +20,13 @@ same-length : tie.Need-same-length
 same-length c = search needs
 
 returns : tie.Need-returns
-returns c =
-    let r = c .before .before .before .before .marks in
-    let e = c .enum-told .given .1 in
-    record { answer = r .result; promise = r .ensures; returned = sym (ap marksNumber e) }
+returns c = marks-out (c .before .before .before .before .marks .ensures) (c .enum-told .given .1)
 
 same-length-2 : tie.Need-same-length-2
 same-length-2 c = search needs
 
 returns-2 : tie.Need-returns-2
-returns-2 c =
-    let r = c .before .before .before .before .before .marks in
-    let e = c .before .answer .given .1 in
-    record { answer = r .result; promise = r .ensures; returned = sym (ap marksNumber e) }
+returns-2 c = marks-out (c .before .before .before .before .before .marks .ensures) (c .before .answer .given .1)
 
 pub rocaplanh-marks-spec : {M : Type 1} → statement M
 rocaplanh-marks-spec =

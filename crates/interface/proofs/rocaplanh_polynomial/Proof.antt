@@ -1,9 +1,9 @@
 -- The numbers are those of the answer that polynomial gave.
-use mathlib.Core.Path.{_≡_, sym, ap, _∙_}
+use mathlib.Core.Path.{_≡_}
 use borrow.Author.Needs.{needs}
 use mir.Val.{ofZ, toZ}
 use mir.Syntax.{w64}
-use Rattle.counting.specs.Operations.{polynomialNumber, polynomialValue}
+use Rattle.interface.proofs.ExportLaws.{polynomial-out}
 use Rattle.interface.proofs.rocaplanh_polynomial.Statement.{statement}
 use Rattle.interface.proofs.rocaplanh_polynomial.Tie as tie
 
@@ -21,16 +21,11 @@ cast-result c = search needs
 
 returns : tie.Need-returns
 returns c =
-    let r = c .before .before .before .polynomial in
-    let e = c .before .answer .given .1 in
     let t : toZ w64 (ofZ w64 (c .before .answer .given .0 .0)) ≡ c .before .answer .given .0 .0 = search needs in
-    record { answer = r .result; promise = r .ensures; returned = sym (ap polynomialNumber e); value-is = t ∙ sym (ap polynomialValue e) }
+    rw t (polynomial-out (c .before .before .before .polynomial .ensures) (c .before .answer .given .1))
 
 returns-2 : tie.Need-returns-2
-returns-2 c =
-    let r = c .before .before .before .polynomial in
-    let e = c .before .answer2 .given .1 in
-    record { answer = r .result; promise = r .ensures; returned = sym (ap polynomialNumber e); value-is = sym (ap polynomialValue e) }
+returns-2 c = polynomial-out (c .before .before .before .polynomial .ensures) (c .before .answer2 .given .1)
 
 pub rocaplanh-polynomial-spec : {M : Type 1} → statement M
 rocaplanh-polynomial-spec =

@@ -38,24 +38,6 @@ pub enum Order {
     Greater,
 }
 
-impl Variable {
-    pub fn next(self) -> Variable
-        requires { ⌜ self .0 < 65536 ⌝ }
-        ensures { λ r. ⌜ r .0 ≡ self .0 + 1 ⌝ }
-    {
-        Variable(self.0 + 1)
-    }
-}
-
-impl RowNumber {
-    pub fn next(self) -> RowNumber
-        requires { ⌜ self .0 < 65536 ⌝ }
-        ensures { λ r. ⌜ r .0 ≡ self .0 + 1 ⌝ }
-    {
-        RowNumber(self.0 + 1)
-    }
-}
-
 // Row k of a table.
 pub fn row_at(table: &[u8], n: usize, k: RowNumber) -> Row
     requires { ⌜ (n ≤ 6) × (k .0 < length (rows n (now table))) ⌝ }

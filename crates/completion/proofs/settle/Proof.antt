@@ -17,9 +17,6 @@ returns c = settle-over (omega arith) (c .passed .ensures)
 sub-count : tie.Need-sub-count
 sub-count c = search needs
 
-returns-2 : tie.Need-returns-2
-returns-2 c = settle-keeps (omega arith)
-
 -- the rows lie within the room, and they are fewer than the generators
 compact-requires : tie.Need-compact-requires
 compact-requires c κs = let a = c .before .before .before .before .before .args in
@@ -31,9 +28,12 @@ compact-requires c κs = let a = c .before .before .before .before .before .args
 same-length : tie.Need-same-length
 same-length c = search needs
 
-returns-3 : tie.Need-returns-3
-returns-3 c = let k = c .before .before .compact in
+returns-2 : tie.Need-returns-2
+returns-2 c = let k = c .before .before .compact in
     settle-takes (omega arith) (omega arith) (omega arith) (omega arith) (omega arith) (omega arith) (k .last .0) (k .ensures)
 
+returns-3 : tie.Need-returns-3
+returns-3 c = settle-keeps (omega arith)
+
 pub settle-spec : {M : Type 1} → statement M
-settle-spec = tie.close (tie.spec passed-requires returns sub-count returns-2 compact-requires same-length returns-3)
+settle-spec = tie.close (tie.spec passed-requires returns sub-count compact-requires same-length returns-2 returns-3)

@@ -7,7 +7,7 @@
 --   filled, filled-next, filled-row    a row that is being read from the bytes of a table
 --   ascends-next, breaks      the turns of `ascends`
 --   refused-1 .. refused-4, passed     the answers of `table_refusal`
-use mathlib.Core.Path.{_≡_, refl, sym, ap, _∙_, subst}
+use mathlib.Core.Path.{_≡_, refl, sym, _∙_, subst}
 use mathlib.Core.Bool.{Bool, true, false}
 use mathlib.Core.List.{List, [], _∷_, _++_}
 use mathlib.Core.Logic.{inl, inr, by-cases}

@@ -16,7 +16,7 @@ use Rattle.terms.specs.Rows.{firstRows, rows, flat}
 use Rattle.terms.specs.Refusals.{Accepts, refusal, tableChecks}
 use Rattle.terms.proofs.RowsLaws.{rows-size, length-rows}
 use Rattle.terms.specs.Refusals.{TableAccepted}
-use Rattle.terms.proofs.RefusalLaws.{accepted, table-accepted, refusal-first}
+use Rattle.terms.proofs.RefusalLaws.{accepted, refuses-first, table-passed}
 use Rattle.completion.specs.Slices.{slices, after, fit}
 use Rattle.completion.specs.Operation.{roomFor, completedOf, roomCheck, completeChecks, CompletePromise}
 use Rattle.completion.specs.declared.CompleteAnswer.the-variants.{Rows, Refused}
@@ -96,16 +96,15 @@ module _ (n : ℕ) (table buffer : List ℕ) where
   -- the checks 1 to 4 refuse
   pub complete-early : (m : ℕ) → m ≡ refusal (tableChecks n table) → (m ≡ 0 → ⊥) → CompletePromise n table buffer (Refused m) buffer
   complete-early m e f =
-      let p : 0 < refusal (tableChecks n table) = omega arith in
-      let g : refusal (completeChecks n table (length buffer)) ≡ m = refusal-first (tableChecks n table) (roomCheck n table (length buffer) ∷ []) p ∙ sym e in
-      subst (λ (x : ℕ). CompletePromise n table buffer (Refused x) buffer) g (complete-refuses n table buffer (omega arith))
+      let g : m ≡ refusal (completeChecks n table (length buffer)) = refuses-first (tableChecks n table) (roomCheck n table (length buffer) ∷ []) m e f in
+      subst (λ (x : ℕ). CompletePromise n table buffer (Refused x) buffer) (sym g) (complete-refuses n table buffer (omega arith))
 
   module _ (m : ℕ) (e : m ≡ refusal (tableChecks n table)) (z : m ≡ 0) where
     accepts : Accepts (tableChecks n table)
     accepts = accepted (tableChecks n table) (sym e ∙ z)
 
     pub passed : TableAccepted n table
-    passed = table-accepted n table accepts
+    passed = table-passed n table m e z
 
     pub collect-asks : (out : List ℕ) (room : ℕ) → length out ≡ 24576 → room ≡ roomFor n (length buffer) → Collects n table (length table / n) out room
     collect-asks out room l r =

@@ -7,12 +7,12 @@
 --   filled, filled-next, filled-row    a row that is being read from the bytes of a table
 --   ascends-next, breaks      the turns of `ascends`
 --   refused-1 .. refused-4, passed     the answers of `table_refusal`
-use mathlib.Core.Path.{_≡_, refl, sym, ap, _∙_, subst}
+use mathlib.Core.Path.{_≡_, refl, sym, _∙_, subst}
 use mathlib.Core.Bool.{Bool, true, false}
 use mathlib.Core.List.{List, [], _∷_, _++_}
 use mathlib.Core.Logic.{inl, inr, by-cases}
 use Prim.Native.Nat.{ℕ, suc, _+_, _*_, _-_, _/_, _%_, _≤_, _<_}
-use native.Mathlib.Nat.{le-of-suc-le-suc, mul-mod-left, div-add-mod'}
+use native.Mathlib.Nat.{le-of-suc-le-suc}
 use native.Mathlib.Numerals.{add-one}
 use native.Mathlib.Decide.{decLe, decLt}
 use native.Mathlib.Omega.{arith}
@@ -24,7 +24,7 @@ use Rattle.terms.specs.Monomials.{Monomial, Table, _!_, rowAt, degree}
 use Rattle.terms.specs.Ideal.{FirstFailure}
 use Rattle.terms.specs.Order.{Precedes, precedesTest, ascendingTest}
 use Rattle.terms.specs.Rows.{rows, padded}
-use Rattle.terms.specs.Refusals.{Check, refusal, NotOneToSix, check, tableChecks}
+use Rattle.terms.specs.Refusals.{Check, refusal, NotOneToSix, no-multiple, quotient, check, tableChecks}
 use Rattle.terms.specs.Refusals.{tests-notOneToSix, tests-noMultiple, tests-tooManyRows, tests-entryAbove50}
 use Rattle.terms.proofs.MonomialLaws.{beyond, same-all}
 use Rattle.terms.proofs.OrderLaws.{precedes-irreflexive, precedes-trans, tests-precedes, tests-ascending}
@@ -130,13 +130,13 @@ module _ (n : ℕ) (t : List ℕ) where
     passed-1 = refusal-passes (check 1 (lit< tt) (tests-notOneToSix n)) later2 (λ f. f (p, l))
 
     pub refused-2 : (length t % n ≡ 0 → ⊥) → 2 ≡ refusal (tableChecks n t)
-    refused-2 h = sym (passed-1 ∙ refusal-holds (check 2 (lit< tt) (tests-noMultiple n t)) later3 (λ k e. h (ap (λ (x : ℕ). x % n) e ∙ mul-mod-left k n)))
+    refused-2 h = sym (passed-1 ∙ refusal-holds (check 2 (lit< tt) (tests-noMultiple n t)) later3 (no-multiple n t h))
 
     module _ (m : length t % n ≡ 0) where
       -- the length is a multiple of n, so it is not none
       passed-2 : refusal (tableChecks n t) ≡ refusal later3
       passed-2 = passed-1 ∙ refusal-passes (check 2 (lit< tt) (tests-noMultiple n t)) later3
-          (λ f. f (length t / n) (sym (div-add-mod' (length t) n) ∙ omega (arith, m)))
+          (λ f. f (length t / n) (quotient n t m))
 
       pub refused-3 : 4096 < length t / n → 3 ≡ refusal (tableChecks n t)
       refused-3 h = sym (passed-2 ∙ refusal-holds (check 3 (lit< tt) (tests-tooManyRows n t)) later4 (rw (length-rows n t) h))

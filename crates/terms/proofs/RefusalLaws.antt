@@ -14,21 +14,21 @@
 --   degree-small                       and no degree is above 300
 use mathlib.Core.Path.{_≡_, refl, sym, ap, _∙_, subst}
 use mathlib.Core.Bool.{Bool, true, false}
-use mathlib.Core.List.{List, [], _∷_, _++_, List·Memᴰ, List·Memᴰ·head, List·Memᴰ·tail, List·Memᴰ·cases-cons, List·Memᴰ·not-nil}
+use mathlib.Core.List.{List, [], _∷_, _++_, List·Memᴰ·head, List·Memᴰ·tail, List·Memᴰ·cases-cons, List·Memᴰ·not-nil}
 use mathlib.Core.List.{Memᴰ·append-left, Memᴰ·append-right}
 use mathlib.Core.Logic.{_⊎_, inl, inr, ⊎-elim, by-cases}
 use Prim.Native.Nat.{ℕ, zero, suc, _+_, _*_, _%_, _≤_, _<_}
-use native.Mathlib.Nat.{not-suc-le-zero, pos-of-ne-zero, div-add-mod', mul-mod-left}
-use native.Mathlib.Decide.{decLt, ℕ-discrete}
+use native.Mathlib.Nat.{not-suc-le-zero, pos-of-ne-zero}
+use native.Mathlib.Decide.{decLt}
 use native.Mathlib.Omega.{arith}
 use lib.Dec.{lit<}
 use lib.ListN.{length, getD}
-use Rattle.terms.specs.Tests.{pick, stable, true-tests, false-tests, tests-le, tests-lt, tests-and}
+use Rattle.terms.specs.Tests.{pick, stable, true-tests, false-tests, tests-le, tests-lt, tests-eq, tests-and}
 use Rattle.terms.specs.Monomials.{Monomial, _∈_, rowAt, AtMost, degree}
 use Rattle.terms.specs.Rows.{rows}
 use Rattle.terms.proofs.MonomialLaws.{beyond, degree-most}
 use Rattle.terms.proofs.RowsLaws.{length-rows, row-size, row-within, entry-at, member-at, member-index}
-use Rattle.terms.specs.Refusals.{Check, refusal, Refuses, Accepts, NoMultiple, check, tableChecks, TableAccepted}
+use Rattle.terms.specs.Refusals.{Check, refusal, Refuses, Accepts, NoMultiple, no-multiple, quotient, check, tableChecks, TableAccepted}
 use Rattle.terms.specs.Refusals.{tests-notOneToSix, tests-noMultiple, tests-tooManyRows, tests-entryAbove50}
 
 -- the first check refuses, or it passes and the others decide
@@ -150,9 +150,7 @@ rest-passes checks more e = accepts-refusal more (accepts-right checks more (acc
 -- ---- a table that passed the checks 1 to 4
 
 multiple : (n : ℕ) (bytes : List ℕ) → (NoMultiple n bytes → ⊥) → length bytes ≡ length (rows n bytes) * n
-multiple n bytes f = by-cases (ℕ-discrete (length bytes % n) 0)
-    (λ e. rw (length-rows n bytes) (sym (div-add-mod' (length bytes) n) ∙ omega (arith, e)))
-    (λ g. absurd (f (λ k e. g (ap (λ (x : ℕ). x % n) e ∙ mul-mod-left k n))))
+multiple n bytes f = rw (length-rows n bytes) (quotient n bytes (stable (tests-eq (length bytes % n) 0) (λ g. f (no-multiple n bytes g))))
 
 pub table-accepted : (n : ℕ) (bytes : List ℕ) → Accepts (tableChecks n bytes) → TableAccepted n bytes
 table-accepted n bytes a =

@@ -4,7 +4,7 @@
 --   rows-flat, flat-rows, flat-firstRows   rows of bytes that were written from a table, and the bytes again
 --   member-at, member-index   a row by its number, and the number of a row
 --   row-fits               a row below the count lies within the bytes
---   zeros-at               of a list of zeros each exponent is 0
+--   zeros-at               each byte of an array of zeros is 0
 --   padded-at, length-padded, degree-padded   a padded row has the exponents of the row, six of them, and its degree
 --   entry-at               an exponent of a row is a byte of the table
 use mathlib.Core.Path.{_≡_, refl, sym, ap, _∙_}

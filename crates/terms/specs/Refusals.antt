@@ -63,10 +63,16 @@ EntryAbove50 bytes = (e : ℕ) × List·Memᴰ e bytes × (50 < e)
 pub tests-notOneToSix : (n : ℕ) → Tests (not (ltb 0 n && leb n 6)) (NotOneToSix n)
 tests-notOneToSix n = tests-not (tests-and (tests-lt 0 n) (λ p. tests-le n 6))
 
+-- with a remainder it is none, and without one it is
+pub no-multiple : (n : ℕ) (bytes : List ℕ) → (length bytes % n ≡ 0 → ⊥) → NoMultiple n bytes
+no-multiple n bytes f k e = f (ap (λ (x : ℕ). x % n) e ∙ mul-mod-left k n)
+
+pub quotient : (n : ℕ) (bytes : List ℕ) → length bytes % n ≡ 0 → length bytes ≡ length bytes / n * n
+quotient n bytes e = sym (div-add-mod' (length bytes) n) ∙ omega (arith, e)
+
 pub tests-noMultiple : (n : ℕ) (bytes : List ℕ) → Tests (not (eqb (length bytes % n) 0)) (NoMultiple n bytes)
 tests-noMultiple n bytes = tests-as (tests-not (tests-eq (length bytes % n) 0))
-    (λ f k e. f (ap (λ (x : ℕ). x % n) e ∙ mul-mod-left k n))
-    (λ f e. f (length bytes / n) (sym (div-add-mod' (length bytes) n) ∙ omega (arith, e)))
+    (no-multiple n bytes) (λ f e. f (length bytes / n) (quotient n bytes e))
 
 pub tests-tooManyRows : (n : ℕ) (bytes : List ℕ) → Tests (ltb 4096 (length (rows n bytes))) (TooManyRows n bytes)
 tests-tooManyRows n bytes = tests-lt 4096 (length (rows n bytes))

@@ -3,6 +3,7 @@
 --   collect-roomy, copied-fits, links-fit   the working arrays are large enough
 --   collected              the recursion on the whole table gives rule 5's table
 --   room-whole, room-limit the room, where it is the buffer's and where it is 4,096
+--   checked, collect-asks  what the checks let pass, and that it can be collected
 --   complete-early, complete-full, complete-done   the promise: refused by the checks 1 to 4, refused for room, accepted
 use mathlib.Core.Path.{_≡_, sym, ap, _∙_, subst}
 use mathlib.Core.List.{List, [], _∷_, _++_}
@@ -94,41 +95,41 @@ room-limit n size h = sym (min-eq-left {n = 4096} {m = size / n} h)
 
 module _ (n : ℕ) (table buffer : List ℕ) where
   -- the checks 1 to 4 refuse
-  pub complete-early : (m : ℕ) → m ≡ refusal (tableChecks n table) → (m ≡ 0 → ⊥) → CompletePromise n table buffer (Refused m) buffer
-  complete-early m e f =
+  pub complete-early : {m : ℕ} → m ≡ refusal (tableChecks n table) → (m ≡ 0 → ⊥) → CompletePromise n table buffer (Refused m) buffer
+  complete-early {m} e f =
       let g : m ≡ refusal (completeChecks n table (length buffer)) = refuses-first (tableChecks n table) (roomCheck n table (length buffer) ∷ []) m e f in
       subst (λ (x : ℕ). CompletePromise n table buffer (Refused x) buffer) (sym g) (complete-refuses n table buffer (omega arith))
 
-  module _ (m : ℕ) (e : m ≡ refusal (tableChecks n table)) (z : m ≡ 0) where
+  module _ {m : ℕ} (e : m ≡ refusal (tableChecks n table)) (z : m ≡ 0) where
     accepts : Accepts (tableChecks n table)
     accepts = accepted (tableChecks n table) (sym e ∙ z)
 
-    pub passed : TableAccepted n table
-    passed = table-passed n table m e z
+    pub checked : TableAccepted n table
+    checked = table-passed n table m e z
 
     pub collect-asks : (out : List ℕ) (room : ℕ) → length out ≡ 24576 → room ≡ roomFor n (length buffer) → Collects n table (length table / n) out room
     collect-asks out room l r =
         let most : room ≤ 4096 = omega (arith, room-limited n (length buffer)) in
         let k : room * n ≤ 4096 * n = rows-fewer room 4096 n most in
         record {
-          some = passed .some;
-          few = passed .few;
-          whole = passed .whole ∙ ap (λ (x : ℕ). x * n) (length-rows n table);
-          limited = omega (arith, passed .limited, length-rows n table);
-          holds = omega (arith, passed .few);
+          some = checked .some;
+          few = checked .few;
+          whole = checked .whole ∙ ap (λ (x : ℕ). x * n) (length-rows n table);
+          limited = omega (arith, checked .limited, length-rows n table);
+          holds = omega (arith, checked .few);
           most = most;
         }
 
-    pub complete-full : (room end : ℕ) (out : List ℕ) → room ≡ roomFor n (length buffer) → Collected n table room end out → room < end →
+    pub complete-full : {room end : ℕ} {out : List ℕ} → room ≡ roomFor n (length buffer) → Collected n table room end out → room < end →
         CompletePromise n table buffer (Refused 8) buffer
-    complete-full room end out r c h =
+    complete-full {room} {end} r c h =
         let b : room < length (completedOf n table) = beyond-fit room (length (completedOf n table)) (omega (arith, c .end)) in
         let g : refusal (completeChecks n table (length buffer)) ≡ 8 = no-room n table (length buffer) accepts (omega arith) in
         subst (λ (x : ℕ). CompletePromise n table buffer (Refused x) buffer) g (complete-refuses n table buffer (omega arith))
 
-    pub complete-done : (room end : ℕ) (out after : List ℕ) → room ≡ roomFor n (length buffer) → Collected n table room end out → end ≤ room →
+    pub complete-done : {room end : ℕ} {out : List ℕ} (after : List ℕ) → room ≡ roomFor n (length buffer) → Collected n table room end out → end ≤ room →
         after ≡ paste buffer 0 (drop 0 out) (end * n) → CompletePromise n table buffer (Rows end) after
-    complete-done room end out after r c h e =
+    complete-done {room} {end} after r c h e =
         let H : Table = completedOf n table in
         let w : length H ≤ room = within-fit room (length H) (omega (arith, c .end)) in
         let k : end ≡ length H = c .end ∙ fit-within room (length H) w in

@@ -73,7 +73,8 @@ fn frame_refusal(bundle: &[u8]) -> u8
 
 // The checks of table j, whose body must begin at the place: 3, 10, 11.
 fn one_table_refusal(bundle: &[u8], n: usize, j: usize, place: usize) -> u8
-    requires { ⌜ (refusal (frameChecks (now bundle)) ≡ 0) × (n ≡ variablesOf (now bundle)) × (j < tableCount (now bundle)) × (place ≡ placeOf (now bundle) j) × (place ≤ 65535) ⌝ }
+    requires { ⌜ (refusal (frameChecks (now bundle)) ≡ 0) × (n ≡ variablesOf (now bundle)) × (j < tableCount (now bundle))
+        × (place ≡ placeOf (now bundle) j) × (place ≤ 65535) ⌝ }
     ensures { λ r. ⌜ r ≡ refusal (tableChecksOf (now (bundle .entry)) j) ⌝ }
 {
     let rows = read16(bundle, 2 + 4 * j);

@@ -34,7 +34,8 @@ fn covered(table: &[u8], n: usize, row: Row, i: Variable) -> bool
 
 // Whether row k, which has these marks, times each variable without a mark has a Janet divisor.
 fn row_complete(table: &[u8], n: usize, k: RowNumber, marks: u8) -> bool
-    requires { ⌜ Ready n (rows n (now table)) × Small (rows n (now table)) × (k .0 < length (rows n (now table))) × (marks ≡ marksOf n (rows n (now table)) (rowAt (rows n (now table)) (k .0))) ⌝ }
+    requires { ⌜ Ready n (rows n (now table)) × Small (rows n (now table)) × (k .0 < length (rows n (now table)))
+        × (marks ≡ marksOf n (rows n (now table)) (rowAt (rows n (now table)) (k .0))) ⌝ }
     ensures { λ r. ⌜ r ≡ rowTest n (rows n (now (table .entry))) (rowAt (rows n (now (table .entry))) (k .0)) ⌝ }
 {
     let row = row_at(table, n, k);

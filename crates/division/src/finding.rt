@@ -146,7 +146,8 @@ fn larger_from(
     hi: RowNumber,
     near: usize,
 ) -> RowNumber
-    requires { ⌜ (0 < i .0) × (i .0 ≤ n) × (hi .0 ≤ 4096) × GroupRange (rows n (now table)) (i .0) (lo .0) (hi .0) × Ascending (rows n (now table)) × (0 < near) ⌝ }
+    requires { ⌜ (0 < i .0) × (i .0 ≤ n) × (hi .0 ≤ 4096) × GroupRange (rows n (now table)) (i .0) (lo .0) (hi .0)
+        × Ascending (rows n (now table)) × (0 < near) ⌝ }
     ensures { λ r. ⌜ FirstLarger (rows n (now (table .entry))) (i .0) (lo .0) (hi .0) (r .0) ⌝ }
 {
     let least = exponent(table, n, lo, i);
@@ -178,7 +179,8 @@ fn along(
     hi: RowNumber,
     steps: usize,
 ) -> Stepped
-    requires { ⌜ (i .0 ≤ n) × Reached n (rows n (now table)) (now query) (i .0) (lo .0) (hi .0) steps × (rowAt (rows n (now table)) (lo .0) ! (i .0) ≤ now query ! (i .0)) ⌝ }
+    requires { ⌜ (i .0 ≤ n) × Reached n (rows n (now table)) (now query) (i .0) (lo .0) (hi .0) steps
+        × (rowAt (rows n (now table)) (lo .0) ! (i .0) ≤ now query ! (i .0)) ⌝ }
     ensures { λ r. ⌜ LastStep n (rows n (now (table .entry))) (now (query .entry)) (i .0) (lo .0) (hi .0) steps (r .low .0) (r .high .0) (r .steps) ⌝ }
 {
     let variable = i.0;

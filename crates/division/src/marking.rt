@@ -42,7 +42,8 @@ pub fn mark_ascending(n: usize, table: &[u8], buffer: &mut [u8])
 
 // The marks of rows in any order, which are listed in order: in one pass from the last, each row's from those of the next listed.
 fn mark_listed(n: usize, table: &[u8], order: &[usize], buffer: &mut [u8])
-    requires { ⌜ Markable n (rows n (now table)) (length (now buffer)) × (length (rows n (now table)) ≤ length (now order)) × Listing (rows n (now table)) (length (rows n (now table))) (now order) ⌝ }
+    requires { ⌜ Markable n (rows n (now table)) (length (now buffer)) × (length (rows n (now table)) ≤ length (now order))
+        × Listing (rows n (now table)) (length (rows n (now table))) (now order) ⌝ }
     ensures { λ _. ⌜ now (buffer .exit) ≡ marked n (rows n (now (table .entry))) (now (buffer .entry)) ⌝ }
 {
     let count = table.len() / n;

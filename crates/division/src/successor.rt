@@ -27,7 +27,8 @@ pub fn marks_by_next(
     next: RowNumber,
     marks: u8,
 ) -> u8
-    requires { ⌜ (n ≤ 6) × (all + 1 ≡ 2 ^ n) × (k .0 < length (rows n (now table))) × (next .0 < length (rows n (now table))) × NotAfter (rowAt (rows n (now table)) (k .0)) (rowAt (rows n (now table)) (next .0)) ⌝ }
+    requires { ⌜ (n ≤ 6) × (all + 1 ≡ 2 ^ n) × (k .0 < length (rows n (now table))) × (next .0 < length (rows n (now table)))
+        × NotAfter (rowAt (rows n (now table)) (k .0)) (rowAt (rows n (now table)) (next .0)) ⌝ }
     ensures { λ r. ⌜ NextMarks n (rowAt (rows n (now (table .entry))) (k .0)) (rowAt (rows n (now (table .entry))) (next .0)) marks r ⌝ }
 {
     let number = k.0;
@@ -48,7 +49,8 @@ pub fn marks_by_next(
 
 // The marks of row k of an ascending table from those of the next row.
 pub fn marks_before(table: &[u8], n: usize, k: RowNumber, next: u8) -> u8
-    requires { ⌜ Ready n (rows n (now table)) × (suc (k .0) < length (rows n (now table))) × (next ≡ marksOf n (rows n (now table)) (rowAt (rows n (now table)) (suc (k .0)))) ⌝ }
+    requires { ⌜ Ready n (rows n (now table)) × (suc (k .0) < length (rows n (now table)))
+        × (next ≡ marksOf n (rows n (now table)) (rowAt (rows n (now table)) (suc (k .0)))) ⌝ }
     ensures { λ r. ⌜ r ≡ marksOf n (rows n (now (table .entry))) (rowAt (rows n (now (table .entry))) (k .0)) ⌝ }
 {
     let number = k.0;

@@ -2,8 +2,6 @@
 use binomial::choose;
 use terms::Degree;
 use terms::RowNumber;
-use terms::degree_of;
-use terms::row_at;
 ghost use mathlib.Core.Path.{_≡_};
 ghost use Prim.Native.Nat.{ℕ, _+_, _≤_, _<_};
 ghost use lib.ListN.{length};
@@ -24,7 +22,15 @@ fn row_degree(table: &[u8], n: usize, k: RowNumber) -> Degree
     requires { ⌜ (n ≤ 6) × (k .0 < length (rows n (now table))) ⌝ }
     ensures { λ r. ⌜ r .0 ≡ degree (rowAt (rows n (now (table .entry))) (k .0)) ⌝ }
 {
-    degree_of(row_at(table, n, k))
+    let number = k.0;
+    let base = number * n;
+    let mut sum: usize = 0;
+    let mut i = 0;
+    while i < n {
+        sum += table[base + i] as usize;
+        i += 1;
+    }
+    Degree(sum)
 }
 
 // The size of the share of a row of degree d with m marks at s (rule 8), whatever its sign.

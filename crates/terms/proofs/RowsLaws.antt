@@ -5,20 +5,20 @@
 --   member-at, member-index   a row by its number, and the number of a row
 --   row-fits               a row below the count lies within the bytes
 --   zeros-at               each byte of an array of zeros is 0
---   padded-at, length-padded, degree-padded   a padded row has the exponents of the row, six of them, and its degree
+--   padded-at, length-padded   a padded row has the exponents of the row, and six of them
 --   entry-at               an exponent of a row is a byte of the table
 use mathlib.Core.Path.{_≡_, refl, sym, ap, _∙_}
 use mathlib.Core.List.{List, [], _∷_, _++_, append-assoc, append-nil, List·Memᴰ, List·Memᴰ·head, List·Memᴰ·tail, List·Memᴰ·cases-cons, List·Memᴰ·not-nil}
 use mathlib.Core.Logic.{⊎-elim, by-cases}
 use Prim.Native.Nat.{ℕ, zero, suc, _+_, _*_, _-_, _/_, _≤_, _<_}
-use native.Mathlib.Nat.{le-antisymm, zero-add, not-suc-le-zero, le-of-suc-le-suc, mul-le-mul-right, add-mul, one-mul, mul-div-left, div-mul-le-self}
+use native.Mathlib.Nat.{zero-add, not-suc-le-zero, le-of-suc-le-suc, mul-le-mul-right, add-mul, one-mul, mul-div-left, div-mul-le-self}
 use native.Mathlib.Decide.{decLt}
 use native.Mathlib.Omega.{arith}
 use lib.ListN.{set, length, getD, take, drop, replicate, length-append, length-drop, length-replicate, getD-replicate, List·getD-append, List·getD-eq-default}
 use lib.Seq.{paste, getD-take, getD-drop, getD-append-add, length-take-le, drop-drop, take-at, drop-at, take-all, take-add}
-use Rattle.terms.specs.Monomials.{Monomial, Table, _!_, rowAt, OfSize, degree}
+use Rattle.terms.specs.Monomials.{Monomial, Table, _!_, rowAt, OfSize}
 use Rattle.terms.specs.Rows.{firstRows, rows, flat, padded, putRow}
-use Rattle.terms.proofs.MonomialLaws.{beyond, degree-le}
+use Rattle.terms.proofs.MonomialLaws.{beyond}
 
 -- ---- numbers
 
@@ -154,9 +154,6 @@ padded-at u (suc i) = by-cases (decLt i (length u))
     ∙ getD-append-add u (replicate (6 - length u) 0) (i - length u) 0
     ∙ zeros-at (6 - length u) (i - length u)
     ∙ sym (beyond u (suc i) (omega arith)))
-
-pub degree-padded : (u : Monomial) → degree (padded u) ≡ degree u
-degree-padded u = le-antisymm (degree-le (padded u) u (λ i. omega (arith, padded-at u i))) (degree-le u (padded u) (λ i. omega (arith, padded-at u i)))
 
 -- the same of the row behind row r
 pub next-entry-at : (n : ℕ) (t : List ℕ) (r i : ℕ) → suc r < length (rows n t) → i < n → rowAt (rows n t) (suc r) ! suc i ≡ getD t (r * n + n + i) 0

@@ -5,7 +5,7 @@ ghost use Prim.Native.Nat.{ℕ, suc, _+_, _*_, _≤_, _<_};
 ghost use lib.Dec.{ltb};
 ghost use lib.ListN.{length};
 ghost use Rattle.terms.specs.Tests.{any};
-ghost use Rattle.terms.specs.Monomials.{_!_, rowAt, degree};
+ghost use Rattle.terms.specs.Monomials.{_!_, rowAt};
 ghost use Rattle.terms.specs.Ideal.{FirstFailure, dividesTest};
 ghost use Rattle.terms.specs.Order.{Compares, precedesTest, ascendingTest};
 ghost use Rattle.terms.specs.Rows.{rows, asRow, putRow};
@@ -116,20 +116,6 @@ pub fn compare(u: Row, v: Row) -> Order
         i += 1;
     }
     Order::Equal
-}
-
-// The total degree of a row.
-pub fn degree_of(u: Row) -> Degree
-    ensures { λ r. ⌜ r .0 ≡ degree (u .exponents) ⌝ }
-{
-    let exponents = u.exponents;
-    let mut sum: usize = 0;
-    let mut i = 0;
-    while i < 6 {
-        sum += exponents[i] as usize;
-        i += 1;
-    }
-    Degree(sum)
 }
 
 // Whether row k precedes the next row.

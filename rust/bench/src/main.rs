@@ -2,7 +2,7 @@
 //!
 //! `bench [--janet PATH] [PART ..]`, a part being completion, find, marks, count or open; all of them where none is named.
 //! Each time is the median of several rounds in which all programs take turns, in processor time. The ratio is ours to the
-//! quickest plain program's; a line that ends in OVER breaks the limit that the issues name. With `--janet` the program is
+//! quickest plain program's; a line that ends in OVER breaks its limit. With `--janet` the program is
 //! run whole, timed by the wall, beside the programs `baseline` and `second`, which are looked for beside `bench` itself.
 
 mod measure;

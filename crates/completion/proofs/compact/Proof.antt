@@ -15,10 +15,10 @@ use Rattle.completion.proofs.compact.Statement.{statement}
 use Rattle.completion.proofs.compact.Tie as tie
 
 abbrev Inv-loop : tie.InvT-loop
-Inv-loop bytes₀ to out n rest first count i₀ bytes i = (i ≤ count) × (length bytes ≡ length bytes₀) × (take (to + i * rest) bytes ≡ take to bytes₀ ++ flat (map (λ u. drop (n - rest) u) (part n i (first * n) out)))
+Inv-loop bytes₀ to out n rest count row i₀ bytes i = (i ≤ count) × (length bytes ≡ length bytes₀) × (take (to + i * rest) bytes ≡ take to bytes₀ ++ flat (map (λ u. drop (n - rest) u) (part n i (row * n) out)))
 
 abbrev μ-loop : tie.MeasureT-loop
-μ-loop bytes₀ to out n rest first count i₀ bytes i = count - i
+μ-loop bytes₀ to out n rest count row i₀ bytes i = count - i
 
 loop-holds : tie.Need-loop-holds Inv-loop μ-loop
 unfolding firstRows flat
@@ -41,14 +41,14 @@ add-copy-from c = let a = c .before .before .before .before .before .args in
 add-copy-from-2 : tie.Need-add-copy-from-2 Inv-loop μ-loop
 add-copy-from-2 c = let a = c .before .before .before .before .before .args in
     let l = c .before .before .loop in
-    let g = row-fits (a .first + l .i) (a .first + a .count) (a .n) (length (a .out .now)) (omega arith) (omega arith) in
-    let t = times-large (a .first + l .i) (a .n) (omega arith) in
+    let g = row-fits (a .first .0 + l .i) (a .first .0 + a .count) (a .n) (length (a .out .now)) (omega arith) (omega arith) in
+    let t = times-large (a .first .0 + l .i) (a .n) (omega arith) in
     omega arith
 
 mul-copy-from-2 : tie.Need-mul-copy-from-2 Inv-loop μ-loop
 mul-copy-from-2 c = let a = c .before .before .before .before .before .args in
     let l = c .before .before .loop in
-    let g = row-fits (a .first + l .i) (a .first + a .count) (a .n) (length (a .out .now)) (omega arith) (omega arith) in
+    let g = row-fits (a .first .0 + l .i) (a .first .0 + a .count) (a .n) (length (a .out .now)) (omega arith) (omega arith) in
     omega arith
 
 sub-copy-from : tie.Need-sub-copy-from Inv-loop μ-loop
@@ -57,14 +57,14 @@ sub-copy-from c = search needs
 add-copy-from-3 : tie.Need-add-copy-from-3 Inv-loop μ-loop
 add-copy-from-3 c = let a = c .before .before .before .before .before .args in
     let l = c .before .before .loop in
-    let g = row-fits (a .first + l .i) (a .first + a .count) (a .n) (length (a .out .now)) (omega arith) (omega arith) in
+    let g = row-fits (a .first .0 + l .i) (a .first .0 + a .count) (a .n) (length (a .out .now)) (omega arith) (omega arith) in
     omega arith
 
 copy-from-requires : tie.Need-copy-from-requires Inv-loop μ-loop
 copy-from-requires c κs = let a = c .before .before .before .before .before .args in
     let l = c .before .before .loop in
     let f = row-fits (l .i) (a .count) (a .rest) (a .count * a .rest) (omega arith) (omega arith) in
-    let g = row-fits (a .first + l .i) (a .first + a .count) (a .n) (length (a .out .now)) (omega arith) (omega arith) in
+    let g = row-fits (a .first .0 + l .i) (a .first .0 + a .count) (a .n) (length (a .out .now)) (omega arith) (omega arith) in
     (omega arith, omega arith)
 
 add-i : tie.Need-add-i Inv-loop μ-loop
@@ -77,10 +77,10 @@ loop-again : tie.Need-loop-again Inv-loop μ-loop
 loop-again c = let a = c .before .before .before .before .before .before .before .before .args in
     let l = c .before .before .before .before .before .loop in
     let f = row-fits (l .i) (a .count) (a .rest) (a .count * a .rest) (omega arith) (omega arith) in
-    let g = row-fits (a .first + l .i) (a .first + a .count) (a .n) (length (a .out .now)) (omega arith) (omega arith) in (
+    let g = row-fits (a .first .0 + l .i) (a .first .0 + a .count) (a .n) (length (a .out .now)) (omega arith) (omega arith) in (
       omega arith,
       c .before .before .copy-from .kept .0 ∙ l .inv .1,
-      compact-more (a .n) (a .rest) (a .first) (l .i) (a .to) (a .out .now) (l .bytes) (c .before .before .copy-from .last .0) (a .bytes .now) (omega arith) (omega arith) (omega arith) (l .inv .2) (c .before .before .copy-from .ensures),
+      compact-more (a .n) (a .rest) (a .first .0) (l .i) (a .to) (a .out .now) (l .bytes) (c .before .before .copy-from .last .0) (a .bytes .now) (omega arith) (omega arith) (omega arith) (l .inv .2) (c .before .before .copy-from .ensures),
     )
 
 same-length : tie.Need-same-length Inv-loop μ-loop

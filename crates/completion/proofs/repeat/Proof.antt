@@ -49,7 +49,8 @@ returns : tie.Need-returns Inv-loop μ-loop
 returns c = let a = c .before .before .before .before .before .before .args in
     let l = c .before .before .loop in
     let S = part (a .n) (a .stop .0 - a .first .0) (a .first .0 * a .n) (a .out .now) in (
-      rw (← add-one (a .last)) (repeat-beyond (a .i .0 - 1) (a .last + 1) (a .a) (l .e) (a .stop .0) (a .stop .0 - a .first .0) (l .end) (a .room) S (omega arith) (omega arith) (length-firstRows (a .n) (a .stop .0 - a .first .0) _) (l .inv .5) (omega arith)),
+      rw (← add-one (a .last)) (repeat-beyond (a .i .0 - 1) (a .last + 1) (a .a) (l .e) (a .stop .0) (a .stop .0 - a .first .0) (l .end) (a .room) S
+          (omega arith) (omega arith) (length-firstRows (a .n) (a .stop .0 - a .first .0) _) (l .inv .5) (omega arith)),
       λ h. absurd (omega arith),
     )
 
@@ -74,6 +75,7 @@ loop-less c = search needs
 loop-again : tie.Need-loop-again Inv-loop μ-loop
 loop-again c = let a = c .before .before .before .before .before .before .before .before .before .before .args in
     let l = c .before .before .before .before .before .before .loop in
+    let k = c .before .before .again in
     let count = a .stop .0 - a .first .0 in
     let S = part (a .n) count (a .first .0 * a .n) (a .out .now) in
     let f = rows-fewer (l .end) (a .room) (a .n) (omega arith) in
@@ -82,9 +84,14 @@ loop-again c = let a = c .before .before .before .before .before .before .before
       omega arith,
       omega arith,
       omega arith,
-      c .before .before .again .kept .0 ∙ l .inv .4,
-      omega (arith, copies-next (a .i .0 - 1) (a .last + 1) (l .e) count S (omega arith) (length-firstRows (a .n) count (drop (a .first .0 * a .n) (a .out .now)))),
-      repeat-more (a .n) (a .i .0 - 1) (a .first .0) count (a .stop .0) (a .last + 1) (l .e) (l .end) (l .out) (c .before .before .again .last .0) (a .out .now) (omega arith) (omega arith) (omega arith) (omega arith) (omega arith) (l .inv .6) (c .before .before .again .ensures),
+      k .kept .0 ∙ l .inv .4,
+      omega (
+        arith,
+        copies-next (a .i .0 - 1) (a .last + 1) (l .e) count S (omega arith)
+            (length-firstRows (a .n) count (drop (a .first .0 * a .n) (a .out .now))),
+      ),
+      repeat-more (a .n) (a .i .0 - 1) (a .first .0) count (a .stop .0) (a .last + 1) (l .e) (l .end) (l .out) (k .last .0) (a .out .now)
+          (omega arith) (omega arith) (omega arith) (omega arith) (omega arith) (l .inv .6) (k .ensures),
     )
 
 same-length-2 : tie.Need-same-length-2 Inv-loop μ-loop

@@ -22,26 +22,27 @@ sub-place c = search needs
 loop-holds : tie.Need-loop-holds Inv-loop μ-loop
 loop-holds c = let a = c .before .args in (omega arith, columned-start (a .out .now) (a .n) (a .i .0 - 1) (a .first .0) (a .e))
 
+-- row j of the block lies in the buffer
+row-lies : (c : tie.In-loop Inv-loop μ-loop) → let a = c .before .before .before .args in
+    (a .first .0 + c .before .loop .j) * a .n + a .n ≤ length (a .out .now)
+row-lies c = let a = c .before .before .before .args in
+    row-fits (a .first .0 + c .before .loop .j) (a .first .0 + a .count) (a .n) (length (a .out .now)) (omega arith) (omega arith)
+
 add-out : tie.Need-add-out Inv-loop μ-loop
 add-out c = let a = c .before .before .before .args in
-    let f = row-fits (a .first .0 + c .before .loop .j) (a .first .0 + a .count) (a .n) (length (a .out .now)) (omega arith) (omega arith) in
     let g = times-large (a .first .0 + c .before .loop .j) (a .n) (omega arith) in
-    omega arith
+    omega (arith, row-lies c)
 
 mul-out : tie.Need-mul-out Inv-loop μ-loop
-mul-out c = let a = c .before .before .before .args in
-    let f = row-fits (a .first .0 + c .before .loop .j) (a .first .0 + a .count) (a .n) (length (a .out .now)) (omega arith) (omega arith) in
-    omega arith
+mul-out c = omega (arith, row-lies c)
 
 add-out-2 : tie.Need-add-out-2 Inv-loop μ-loop
-add-out-2 c = let a = c .before .before .before .args in
-    let f = row-fits (a .first .0 + c .before .loop .j) (a .first .0 + a .count) (a .n) (length (a .out .now)) (omega arith) (omega arith) in
-    omega arith
+add-out-2 c = omega (arith, row-lies c)
 
 slice-write-out : tie.Need-slice-write-out Inv-loop μ-loop
 slice-write-out c = let a = c .before .before .before .args in
     let l = c .before .loop in
-    let f = row-fits (a .first .0 + l .j) (a .first .0 + a .count) (a .n) (length (a .out .now)) (omega arith) (omega arith) in
+    let f = row-lies c in
     rw (l .inv .1, columned-length (a .out .now) (a .n) (a .i .0 - 1) (a .first .0) (a .e) (l .j) (omega arith)) (omega arith)
 
 add-j : tie.Need-add-j Inv-loop μ-loop
@@ -53,8 +54,7 @@ loop-less c = search needs
 loop-again : tie.Need-loop-again Inv-loop μ-loop
 loop-again c = let a = c .before .before .before .args in
     let l = c .before .loop in
-    let f = row-fits (a .first .0 + l .j) (a .first .0 + a .count) (a .n) (length (a .out .now)) (omega arith) (omega arith) in
-    (omega arith, column-more (a .out .now) (a .n) (a .i .0 - 1) (a .first .0) (a .e) (l .out) (l .j) (omega arith) (omega arith) (l .inv .1))
+    (omega arith, column-more (a .out .now) (a .n) (a .i .0 - 1) (a .first .0) (a .e) (l .out) (l .j) (row-lies c) (omega arith) (l .inv .1))
 
 same-length : tie.Need-same-length Inv-loop μ-loop
 same-length c = let a = c .before .before .before .args in

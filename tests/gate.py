@@ -124,8 +124,8 @@ def main():
         for step in (listed_crates, contracts, unconditional, layers, layout, true_pages):
             step()
             print(f'gate: {step.__name__}: holds', flush=True)
-        passed += closing_number([sys.executable, 'tests/counters.py'])
         passed += closing_number(['rt', 'ci'])
+        passed += closing_number([sys.executable, 'tests/counters.py'])
         if os.path.isdir(os.path.join(ROOT, 'crates/janet')):
             passed += closing_number(['bash', 'tests/comparisons'])
     except Fault as fault:

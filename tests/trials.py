@@ -20,6 +20,12 @@ def copy(folder):
     for crate in ('terms', 'refusals'):
         shutil.copytree(os.path.join(ROOT, 'crates', crate), os.path.join(folder, 'crates', crate), ignore=shutil.ignore_patterns('must-fail'))
     write(folder, 'crates.txt', 'terms:\nrefusals: terms io libc\n')
+    for edit in os.listdir(os.path.join(folder, 'tests', 'counters')):
+        path = os.path.join(folder, 'tests', 'counters', edit)
+        with open(path, encoding='utf-8') as file:
+            other = not file.read().startswith('crate: terms')
+        if other:
+            os.remove(path)
     write(folder, 'docs/PROMISES.md', f'| `table_refusal` | `{SOURCE}` |\n')
 
 
@@ -46,7 +52,7 @@ FAULTS = {
     'a requires on a public operation': lambda folder: edit(
         folder, SOURCE, '    ensures { λ r. ⌜ r ≡ refusal (tableChecks', '    requires { ⌜ n ≤ 6 ⌝ }\n    ensures { λ r. ⌜ r ≡ refusal (tableChecks'),
     'a page that names what is not there': lambda folder: write(folder, 'docs/GUIDE.md', 'Read `terms/specs/Nothing`.\n'),
-    'a counter that is exchanged': lambda folder: edit(folder, 'tests/counters/variable_for_a_degree.edit', 'new:     Variable(sum)', 'new:     Degree(sum)'),
+    'a counter that is exchanged': lambda folder: edit(folder, 'tests/counters/row_number_for_a_variable.edit', 'new:     RowNumber(0)', 'new:     Variable(0)'),
 }
 
 

@@ -6,7 +6,7 @@
 --   Copied, copied-none, copied-more, copied-within, copied-all, copied-length   a copy, byte by byte, from another array or within one
 --   pairs-start, pairs-stop, pairs-on   the test of divisibility, exponent by exponent from the last
 --   part-cons              rows from a place on: the first and the others
---   covered-stop, -on, -end, grows-stop, -on, -end   the tests over the rows that are left
+--   inside-stop, -on, -end, grows-stop, -on, -end   the tests over the rows that are left
 --   head-byte, heads-start, heads-more, heads-same   the head of a row is its first byte; the largest head, row by row from the last
 --   least-start, least-more   the least byte so far
 use mathlib.Core.Path.{_≡_, refl, sym, ap, _∙_, subst}
@@ -139,19 +139,19 @@ part-cons n (suc k) from b h =
 
 -- ---- the tests over the rows that are left
 
-pub covered-stop : (m left from : ℕ) (b : List ℕ) (q : Monomial) → 0 < left → dividesTest (take m (drop from b)) q ≡ true →
+pub inside-stop : (m left from : ℕ) (b : List ℕ) (q : Monomial) → 0 < left → dividesTest (take m (drop from b)) q ≡ true →
     insideTest (part m left from b) q ≡ true
 unfolding insideTest
-covered-stop m left from b q p e = rw (part-cons m left from b p, e)
+inside-stop m left from b q p e = rw (part-cons m left from b p, e)
 
-pub covered-on : (m left from : ℕ) (b : List ℕ) (q : Monomial) → 0 < left → dividesTest (take m (drop from b)) q ≡ false →
+pub inside-on : (m left from : ℕ) (b : List ℕ) (q : Monomial) → 0 < left → dividesTest (take m (drop from b)) q ≡ false →
     insideTest (part m left from b) q ≡ insideTest (part m (left - 1) (from + m) b) q
 unfolding insideTest
-covered-on m left from b q p e = rw (part-cons m left from b p, e)
+inside-on m left from b q p e = rw (part-cons m left from b p, e)
 
-pub covered-end : (m from : ℕ) (b : List ℕ) (q : Monomial) → insideTest (part m 0 from b) q ≡ false
+pub inside-end : (m from : ℕ) (b : List ℕ) (q : Monomial) → insideTest (part m 0 from b) q ≡ false
 unfolding insideTest firstRows
-covered-end m from b q = refl
+inside-end m from b q = refl
 
 pub grows-stop : (G : Table) (m left from : ℕ) (b : List ℕ) → 0 < left → insideTest G (take m (drop from b)) ≡ false → fresh G (part m left from b) ≡ true
 unfolding fresh

@@ -14,9 +14,9 @@ use native.Mathlib.Nat.{mul-le-mul-right, mul-add, mul-le-mul-left}
 use native.Mathlib.Numerals.{add-one}
 use native.Mathlib.Omega.{arith}
 use lib.ListN.{length, take, drop, getD, set, length-drop, length-set}
-use lib.Seq.{paste, take-paste, take-suc-set, length-take-le, take-all}
+use lib.Seq.{take-paste, take-suc-set, length-take-le, take-all}
 use Rattle.terms.specs.Monomials.{Monomial, Table, _!_, OfSize, rowAt}
-use Rattle.terms.specs.Rows.{firstRows, flat}
+use Rattle.terms.specs.Rows.{firstRows, flat, putRow}
 use Rattle.terms.proofs.RowsLaws.{length-firstRows, firstRows-size, member-at, member-index}
 use Rattle.completion.specs.Slices.{at, heads, fresh, Walk, walk, slices, after}
 use Rattle.completion.specs.Code.{space, Appended, Standing, Stepped, Roomy}
@@ -70,9 +70,9 @@ module _ {n rows : ℕ} {work out : List ℕ} {room at : ℕ} (R : Roomy n 0 row
       kept = refl;
     }
 
-    pub last-one : at < room → (head : List ℕ) → length head ≡ 6 → (row o : List ℕ) → row ≡ set head (n - 1) m → o ≡ paste out (at * n) (drop 0 row) n →
+    pub last-one : at < room → (head : List ℕ) → length head ≡ 6 → (row o : List ℕ) → row ≡ set head (n - 1) m → o ≡ putRow n at row out →
         Appended n 0 rows head work out room at (at + 1) work o
-    unfolding flat after
+    unfolding flat after putRow
     last-one l head six row o q e =
         let f : (at + 1) * n ≡ at * n + n = omega arith in
         let g : (at + 1) * n ≤ room * n = mul-le-mul-right n (omega arith) in
@@ -147,7 +147,7 @@ module _ {n rest rows : ℕ} {work out : List ℕ} {room start : ℕ} (h : Roomy
   size = firstRows-size (suc rest) rows work (table-wide h)
 
   pub level-start : {head : List ℕ} →
-      Standing T start (take (start * n) out) n rest rows head room 0 work out (record { from = start; end = start; last = 0; generators = 0 })
+      Standing T start (take (start * n) out) n rest rows head room 0 work out (record { from = record { 0 = start }; end = start; last = 0; generators = 0 })
   unfolding walk firstRows flat after
   level-start =
       let f : start * n ≤ room * n = rows-fewer start room n (h .starts) in

@@ -39,7 +39,7 @@ pub record StepRoom (rest rows a : ℕ) (work next : List ℕ) (w : Progress) : 
   pub few : w .generators + length (at a (firstRows (suc rest) rows work)) ≤ rows
   pub tails : rows * (rest + 1) + (w .generators * rest + length (at a (firstRows (suc rest) rows work)) * rest) ≤ length work
   pub chained : rows ≤ length next
-  pub block : w .from ≤ w .end
+  pub block : w .from .0 ≤ w .end
   pub last : w .last ≤ a
 
 module _ {T : Table} {start : ℕ} {P : List ℕ} {n rest rows : ℕ} {head : List ℕ} {room a : ℕ} {work out : List ℕ} {w : Progress}
@@ -151,7 +151,7 @@ module _ {T : Table} {start : ℕ} {P : List ℕ} {n rest rows : ℕ} {head : Li
           subst (λ (k : ℕ). OfSize k (after p H)) e (after-size p H z)
 
       -- the block stands at the end of what is written
-      block-rows : part n (w .end - w .from) (w .from * n) out ≡ after p (behind (W .last) (W .block))
+      block-rows : part n (w .end - w .from .0) (w .from .0 * n) out ≡ after p (behind (W .last) (W .block))
       block-rows =
           let r = walk-end rest T table-size a in
           let L : Table = r .0 in
@@ -160,20 +160,20 @@ module _ {T : Table} {start : ℕ} {P : List ℕ} {n rest rows : ℕ} {head : Li
           let z : OfSize (suc rest) L = λ u m. walk-written rest T table-size a u (subst (λ (H : Table). List·Memᴰ u H) (r .1) (Memᴰ·append-left B m)) in
           let lr : length (flat (after p L)) ≡ length L * n = length-flat n (after p L) (row-size L z) ∙ ap (λ (k : ℕ). k * n) (length-after p L) in
           let count : length L + length B ≡ length (W .written) = sym (length-append L B) ∙ ap length (r .1) in
-          let from : start + length L ≡ w .from = omega (arith, S .end, S .block, length-behind (W .last) (W .block)) in
-          let lx : length X ≡ w .from * n =
+          let from : start + length L ≡ w .from .0 = omega (arith, S .end, S .block, length-behind (W .last) (W .block)) in
+          let lx : length X ≡ w .from .0 * n =
           length-append P (flat (after p L)) ∙ omega (arith, S .before, lr, add-mul start (length L) n, ap (λ (k : ℕ). k * n) from) in
-          let whole : w .from * n + (w .end - w .from) * n ≡ w .end * n =
-          sym (add-mul (w .from) (w .end - w .from) n) ∙ ap (λ (k : ℕ). k * n) (omega (arith, S .block)) in
-          let bytes : take (w .from * n + (w .end - w .from) * n) out ≡ X ++ flat (after p B) =
+          let whole : w .from .0 * n + (w .end - w .from .0) * n ≡ w .end * n =
+          sym (add-mul (w .from .0) (w .end - w .from .0) n) ∙ ap (λ (k : ℕ). k * n) (omega (arith, S .block)) in
+          let bytes : take (w .from .0 * n + (w .end - w .from .0) * n) out ≡ X ++ flat (after p B) =
           ap (λ (k : ℕ). take k out) whole ∙ S .written
           ∙ ap (λ (H : Table). P ++ flat (after p H)) (sym (r .1))
           ∙ ap (λ (H : Table). P ++ flat H) (after-append p L B)
           ∙ ap (λ (l : List ℕ). P ++ l) (flat-append (after p L) (after p B))
           ∙ sym (append-assoc P (flat (after p L)) (flat (after p B))) in
-          let lb : length (after p B) ≡ w .end - w .from = length-after p B ∙ length-behind (W .last) (W .block) ∙ omega (arith, S .block) in
+          let lb : length (after p B) ≡ w .end - w .from .0 = length-after p B ∙ length-behind (W .last) (W .block) ∙ omega (arith, S .block) in
           let size : OfSize n (after p B) = row-size B (behind-size rest (W .last) (W .block) (walk-block rest T table-size a)) in
-          read-back n (w .end - w .from) (w .from * n) out X (after p B) size lb lx bytes
+          read-back n (w .end - w .from .0) (w .from .0 * n) out X (after p B) size lb lx bytes
 
       next : walk (λ H. slices rest H) T (suc a) ≡ grown (λ H. slices rest H) a W K
       next = walk-grows (λ H. slices rest H) T a (grows-as ∙ grows)
@@ -202,15 +202,15 @@ module _ {T : Table} {start : ℕ} {P : List ℕ} {n rest rows : ℕ} {head : Li
       -- ---- the block of the last head repeated
 
       abbrev again : Table
-      again = copies (n - (rest + 1)) (suc (w .last)) (a - suc (w .last)) (part n (w .end - w .from) (w .from * n) out)
+      again = copies (n - rest - 1) (suc (w .last)) (a - suc (w .last)) (part n (w .end - w .from .0) (w .from .0 * n) out)
 
       module _ (out₁ : List ℕ) {row : ℕ}
           (block : (row ≡ fit room (w .end + length again)) × (row ≤ room → take (row * n) out₁ ≡ take (w .end * n) out ++ flat again)) where
         again-rows : again ≡ after p M
         again-rows =
-            let at-front : n - (rest + 1) ≡ length p = omega (arith, front-length) in
-            ap (λ (H : Table). copies (n - (rest + 1)) (suc (w .last)) (a - suc (w .last)) H) block-rows
-            ∙ ap (λ (x : ℕ). copies (n - (rest + 1)) (suc x) (a - suc x) (after p (behind (W .last) (W .block)))) (S .last)
+            let at-front : n - rest - 1 ≡ length p = omega (arith, front-length) in
+            ap (λ (H : Table). copies (n - rest - 1) (suc (w .last)) (a - suc (w .last)) H) block-rows
+            ∙ ap (λ (x : ℕ). copies (n - rest - 1) (suc x) (a - suc x) (after p (behind (W .last) (W .block)))) (S .last)
             ∙ ap (λ (x : ℕ). copies x (suc (W .last)) (a - suc (W .last)) (after p (behind (W .last) (W .block)))) at-front
             ∙ copies-repeated p (W .last) (suc (W .last)) (a - suc (W .last)) (W .block)
 
@@ -230,12 +230,12 @@ module _ {T : Table} {start : ℕ} {P : List ℕ} {n rest rows : ℕ} {head : Li
         -- ---- the block of a behind it
 
         module _ (h : row ≤ room) (held : length out₁ ≡ length out) (positive : 0 < rest)
-            {m : ℕ} {longer : List ℕ} (set-is : (longer ≡ set head (n - (rest + 1)) a) × (m ≡ n)) {end : ℕ} {lent out₂ : List ℕ}
+            {m : ℕ} {longer : List ℕ} (set-is : (longer ≡ set head (n - rest - 1) a) × (m ≡ n)) {end : ℕ} {lent out₂ : List ℕ}
             (appended : Appended m (rest - 1) (w .generators + more) longer (take (length work₁ - base) (drop base work₁)) out₁ room row end lent out₂)
             (same-lent : length lent ≡ length (take (length work₁ - base) (drop base work₁))) where
           A : Appended n (rest - 1) (w .generators + more) (set head (n - suc rest) a) (drop base work₁) out₁ room row end lent out₂
           A =
-              let at-front : n - (rest + 1) ≡ n - suc rest = omega arith in
+              let at-front : n - rest - 1 ≡ n - suc rest = omega arith in
               let e : longer ≡ set head (n - suc rest) a = set-is .0 ∙ ap (λ (x : ℕ). set head x a) at-front in
               rw (set-is .1, e, lent-all base work₁) at appended
 
@@ -334,7 +334,7 @@ module _ {T : Table} {start : ℕ} {P : List ℕ} {n rest rows : ℕ} {head : Li
                       generators =
                           ap (λ (x : ℕ). part rest (r .generators) x work₂) (sym base-is)
                           ∙ Z .generators fits ∙ pick ∙ sym next-generators;
-                      block = ap (λ (H : Table). r .from + length H) next-block ∙ omega (arith, Z .from fits, Z .end, end-at fits);
+                      block = ap (λ (H : Table). r .from .0 + length H) next-block ∙ omega (arith, Z .from fits, Z .end, end-at fits);
                       before = S .before;
                       end = Z .end ∙ end-at fits ∙ sum;
                       within = x;

@@ -59,7 +59,7 @@ pub record Standing (T : Table) (start : ℕ) (P : List ℕ) (n rest rows : ℕ)
   pub table : firstRows (suc rest) rows work ≡ T
   pub last : w .last ≡ walk (λ H. slices rest H) T a .last
   pub generators : part rest (w .generators) (rows * suc rest) work ≡ walk (λ H. slices rest H) T a .generators
-  pub block : w .from + length (walk (λ H. slices rest H) T a .block) ≡ w .end
+  pub block : w .from .0 + length (walk (λ H. slices rest H) T a .block) ≡ w .end
   pub before : length P ≡ start * n
   pub end : w .end ≡ start + length (walk (λ H. slices rest H) T a .written)
   pub within : w .end ≤ room
@@ -70,7 +70,7 @@ pub record Standing (T : Table) (start : ℕ) (P : List ℕ) (n rest rows : ℕ)
 pub record Settled (n rest all base start stop a room : ℕ) (work out : List ℕ) (r : Progress) (work' : List ℕ) : Type 0 where
   pub end : r .end ≡ stop
   pub kept : take base work' ≡ take base work
-  pub from : stop ≤ room → r .from ≡ start
+  pub from : stop ≤ room → r .from .0 ≡ start
   pub last : stop ≤ room → r .last ≡ a
   pub generators : stop ≤ room →
       part rest (r .generators) base work' ≡ shorter (map (λ u. drop (n - rest) u) (part n (stop - start) (start * n) out)) (part rest all base work)

@@ -232,7 +232,7 @@ level-loop-again t c =
     let q = k .ensures .1 T _ _ (l .inv .0) in (
       rw (add-one (l .a)) (q .on (c .if2 .left)),
       q .kept ∙ l .inv .1,
-      omega arith,
+      omega (arith, d .before .before .before .before .before .loop-test .taken),
       k .kept .0 ∙ l .inv .3,
       k .kept .1 .1 .1 .1 .1 .1 .0 ∙ l .inv .4,
       k .kept .1 .0 ∙ l .inv .5,
@@ -322,11 +322,9 @@ step-returns t c =
       λ T start P S. step-stays S (step-start t d .pre .1 .0) (k .last .0) (k .kept .0) (k .ensures) (c .before .grows .ensures) (not-true _ (c .if1 .taken)),
     )
 
-step-add-k : (t : ℕ) → step-lts.Need-add-k (step-claims t) (step-at t) step.Post
-step-add-k t c = search needs
-
-step-sub-k : (t : ℕ) → step-lts.Need-sub-k (step-claims t) (step-at t) step.Post
-step-sub-k t c = search needs
+-- the number of the variable
+step-sub-links : (t : ℕ) → step-lts.Need-sub-links (step-claims t) (step-at t) step.Post
+step-sub-links t c = search needs
 
 -- the block ends where the rows end, at a head not above a
 step-repeat-requires : (t : ℕ) → step-lts.Need-repeat-requires (step-claims t) (step-at t) step.Post
@@ -334,7 +332,7 @@ step-repeat-requires t c κs =
     let s = step-start t (c .before .before .before .before .before .before) in
     let q = s .pre .1 in
     let x = step-sizes t s in
-    (x .block, q .7 .3 .within, q .0 .holds, q .0 .most, omega (arith, q .0 .variables), omega (arith, q .2), omega (arith, q .2))
+    (x .block, q .7 .3 .within, q .0 .holds, q .0 .most, omega (arith, q .0 .variables), omega (arith, q .0 .variables), omega (arith, q .2), omega (arith, q .2))
 
 step-passed-requires : (t : ℕ) → step-lts.Need-passed-requires (step-claims t) (step-at t) step.Post
 step-passed-requires t c κs = search needs
@@ -395,8 +393,8 @@ step-part-tails-end t c = search needs
 step-mul-links : (t : ℕ) → step-lts.Need-mul-links (step-claims t) (step-at t) step.Post
 step-mul-links t c = let x = step-sizes t (step-start t (step-tails t (step-grown t (c .before)))) in omega arith
 
-step-sub-links : (t : ℕ) → step-lts.Need-sub-links (step-claims t) (step-at t) step.Post
-step-sub-links t c = let x = step-sizes t (step-start t (step-tails t (step-grown t (c .before)))) in omega arith
+step-sub-links-2 : (t : ℕ) → step-lts.Need-sub-links-2 (step-claims t) (step-at t) step.Post
+step-sub-links-2 t c = let x = step-sizes t (step-start t (step-tails t (step-grown t (c .before)))) in omega arith
 
 step-part-links-start : (t : ℕ) → step-lts.Need-part-links-start (step-claims t) (step-at t) step.Post
 step-part-links-start t c = let x = step-sizes t (step-start t (step-tails t (step-grown t (c .before)))) in omega arith
@@ -525,8 +523,7 @@ pub +level+step-spec : {M : Type 1} → statement M
     (step-same-length t)
     (step-same-length-2 t)
     (step-returns t)
-    (step-add-k t)
-    (step-sub-k t)
+    (step-sub-links t)
     (step-repeat-requires t)
     (step-passed-requires t)
     (step-same-length-3 t)
@@ -540,7 +537,7 @@ pub +level+step-spec : {M : Type 1} → statement M
     (step-part-tails-start t)
     (step-part-tails-end t)
     (step-mul-links t)
-    (step-sub-links t)
+    (step-sub-links-2 t)
     (step-part-links-start t)
     (step-part-links-end t)
     (step-sub-level t)

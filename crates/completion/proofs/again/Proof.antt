@@ -2,34 +2,30 @@
 use Rattle.completion.proofs.CodeBytes.{rows-before}
 use Rattle.completion.proofs.CodeRows.{again-rows}
 use native.Mathlib.Omega.{arith}
-use Prim.Native.Nat.{_+_}
+use Prim.Native.Nat.{_+_, _*_, _-_, _≤_}
+use lib.ListN.{length}
 use borrow.Author.Needs.{needs}
 use Rattle.completion.proofs.again.Statement.{statement}
 use Rattle.completion.proofs.again.Tie as tie
 
+-- the rows lie before row `end`, and their copy in the buffer
+rows-lie : (s : tie.Start) → let a = s .args in
+    (a .first .0 * a .n + a .count * a .n ≤ a .end .0 * a .n) × (a .end .0 * a .n + a .count * a .n ≤ length (a .out .now))
+rows-lie s = let a = s .args in
+    let g = rows-before (a .end .0) (a .count) (a .end .0 + a .count) (a .n) (omega arith) in
+    (rows-before (a .first .0) (a .count) (a .end .0) (a .n) (omega arith), omega arith)
+
 mul-copy-within : tie.Need-mul-copy-within
-mul-copy-within c = let a = c .before .before .args in
-    let f = rows-before (a .first) (a .count) (a .end) (a .n) (omega arith) in
-    let g = rows-before (a .end) (a .count) (a .end + a .count) (a .n) (omega arith) in
-    omega arith
+mul-copy-within c = let r = rows-lie (c .before .before .before) in omega (arith, r .0, r .1)
 
 mul-copy-within-2 : tie.Need-mul-copy-within-2
-mul-copy-within-2 c = let a = c .before .before .args in
-    let f = rows-before (a .first) (a .count) (a .end) (a .n) (omega arith) in
-    let g = rows-before (a .end) (a .count) (a .end + a .count) (a .n) (omega arith) in
-    omega arith
+mul-copy-within-2 c = let r = rows-lie (c .before .before .before .before) in omega (arith, r .1)
 
 mul-copy-within-3 : tie.Need-mul-copy-within-3
-mul-copy-within-3 c = let a = c .before .before .args in
-    let f = rows-before (a .first) (a .count) (a .end) (a .n) (omega arith) in
-    let g = rows-before (a .end) (a .count) (a .end + a .count) (a .n) (omega arith) in
-    omega arith
+mul-copy-within-3 c = let r = rows-lie (c .before .before .before .before) in omega (arith, r .1)
 
 copy-within-requires : tie.Need-copy-within-requires
-copy-within-requires c κs = let a = c .before .before .args in
-    let f = rows-before (a .first) (a .count) (a .end) (a .n) (omega arith) in
-    let g = rows-before (a .end) (a .count) (a .end + a .count) (a .n) (omega arith) in
-    (omega arith, omega arith)
+copy-within-requires c κs = rows-lie (c .before .before .before .before)
 
 set-column-requires : tie.Need-set-column-requires
 set-column-requires c κs = search needs
@@ -38,8 +34,8 @@ same-length : tie.Need-same-length
 same-length c = search needs
 
 returns : tie.Need-returns
-returns c = let a = c .before .before .before .before .before .before .before .before .before .args in
-    again-rows (a .n) (a .k) (a .first) (a .count) (a .end) (a .e) (a .out .now)
+returns c = let a = c .before .before .before .before .before .before .before .before .before .before .before .args in
+    again-rows (a .n) (a .i .0 - 1) (a .first .0) (a .count) (a .end .0) (a .e) (a .out .now)
     (c .before .before .before .before .before .before .copy-within .last .0) (c .before .before .set-column .last .0)
     (omega arith) (omega arith)
     (c .before .before .before .before .before .before .copy-within .ensures) (c .before .before .set-column .ensures)

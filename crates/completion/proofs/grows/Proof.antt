@@ -26,8 +26,8 @@ add-place c = search needs
 loop-holds : tie.Need-loop-holds Inv-loop μ-loop
 loop-holds c = search needs
 
-covered-requires : tie.Need-covered-requires Inv-loop μ-loop
-covered-requires c κs = let a = c .before .before .before .args in
+inside-ideal-requires : tie.Need-inside-ideal-requires Inv-loop μ-loop
+inside-ideal-requires c κs = let a = c .before .before .before .args in
     let l = c .before .loop in
     let s = times-pred (l .left) (a .m) (omega arith) in
     (omega arith, omega arith)
@@ -35,7 +35,7 @@ covered-requires c κs = let a = c .before .before .before .args in
 returns : tie.Need-returns Inv-loop μ-loop
 returns c = let a = c .before .before .before .before .before .args in
     let l = c .before .before .before .loop in
-    sym (l .inv .1 ∙ grows-stop (part (a .m) (a .count) (a .from) (a .bytes .now)) (a .m) (l .left) (l .place) (a .bytes .now) (omega arith) (sym (c .before .covered .ensures) ∙ not-true _ (c .if1 .taken)))
+    sym (l .inv .1 ∙ grows-stop (part (a .m) (a .count) (a .from) (a .bytes .now)) (a .m) (l .left) (l .place) (a .bytes .now) (omega arith) (sym (c .before .inside-ideal .ensures) ∙ not-true _ (c .if1 .taken)))
 
 add-place-2 : tie.Need-add-place-2 Inv-loop μ-loop
 add-place-2 c = let a = c .before .before .before .before .before .args in
@@ -53,7 +53,7 @@ loop-again : tie.Need-loop-again Inv-loop μ-loop
 loop-again c = let a = c .before .before .before .before .before .args in
     let l = c .before .before .before .loop in
     let s = times-pred (l .left) (a .m) (omega arith) in
-    (omega arith, l .inv .1 ∙ grows-on (part (a .m) (a .count) (a .from) (a .bytes .now)) (a .m) (l .left) (l .place) (a .bytes .now) (omega arith) (sym (c .before .covered .ensures) ∙ not-false _ (c .if1 .left)))
+    (omega arith, l .inv .1 ∙ grows-on (part (a .m) (a .count) (a .from) (a .bytes .now)) (a .m) (l .left) (l .place) (a .bytes .now) (omega arith) (sym (c .before .inside-ideal .ensures) ∙ not-false _ (c .if1 .left)))
 
 returns-2 : tie.Need-returns-2 Inv-loop μ-loop
 returns-2 c = let a = c .before .before .before .args in
@@ -70,7 +70,7 @@ grows-spec =
     mul-place
     add-place
     loop-holds
-    covered-requires
+    inside-ideal-requires
     returns
     add-place-2
     sub-left

@@ -16,11 +16,13 @@ use Rattle.completion.proofs.repeat.Statement.{statement}
 use Rattle.completion.proofs.repeat.Tie as tie
 
 abbrev Inv-loop : tie.InvT-loop
-Inv-loop out₀ n k first stop last a room count end₀ e₀ out end e = (e₀ ≤ e) × (e - e₀ ≤ a - e₀) × (stop ≤ end) × (end ≤ room) × (length out ≡ length out₀) × (end ≡ stop + length (copies k e₀ (e - e₀) (part n count (first * n) out₀)))
-    × (take (end * n) out ≡ take (stop * n) out₀ ++ flat (copies k e₀ (e - e₀) (part n count (first * n) out₀)))
+Inv-loop out₀ n i first last a room count end₀ e₀ out end e =
+    (e₀ ≤ e) × (e - e₀ ≤ a - e₀) × (end₀ ≤ end) × (end ≤ room) × (length out ≡ length out₀)
+    × (end ≡ end₀ + length (copies (i .0 - 1) e₀ (e - e₀) (part n count (first .0 * n) out₀)))
+    × (take (end * n) out ≡ take (end₀ * n) out₀ ++ flat (copies (i .0 - 1) e₀ (e - e₀) (part n count (first .0 * n) out₀)))
 
 abbrev μ-loop : tie.MeasureT-loop
-μ-loop out₀ n k first stop last a room count end₀ e₀ out end e = a - e
+μ-loop out₀ n i first last a room count end₀ e₀ out end e = a - e
 
 sub-count : tie.Need-sub-count Inv-loop μ-loop
 sub-count c = search needs
@@ -30,7 +32,7 @@ add-e c = search needs
 
 loop-holds : tie.Need-loop-holds Inv-loop μ-loop
 unfolding copies flat
-loop-holds c = let a = c .before .args in
+loop-holds c = let a = c .before .before .before .args in
     let z : a .last + 1 - (a .last + 1) ≡ 0 = omega arith in
     (omega arith, omega arith, omega arith, omega arith, refl, rw z (omega arith), rw z (sym (append-nil _)))
 
@@ -44,10 +46,11 @@ same-length : tie.Need-same-length Inv-loop μ-loop
 same-length c = search needs
 
 returns : tie.Need-returns Inv-loop μ-loop
-returns c = let a = c .before .before .before .before .args in
+returns c = let a = c .before .before .before .before .before .before .args in
     let l = c .before .before .loop in
-    let S = part (a .n) (a .stop - a .first) (a .first * a .n) (a .out .now) in (
-      rw (← add-one (a .last)) (repeat-beyond (a .k) (a .last + 1) (a .a) (l .e) (a .stop) (a .stop - a .first) (l .end) (a .room) S (omega arith) (omega arith) (length-firstRows (a .n) (a .stop - a .first) _) (l .inv .5) (omega arith)),
+    let S = part (a .n) (a .stop .0 - a .first .0) (a .first .0 * a .n) (a .out .now) in (
+      rw (← add-one (a .last)) (repeat-beyond (a .i .0 - 1) (a .last + 1) (a .a) (l .e) (a .stop .0) (a .stop .0 - a .first .0) (l .end) (a .room) S
+          (omega arith) (omega arith) (length-firstRows (a .n) (a .stop .0 - a .first .0) _) (l .inv .5) (omega arith)),
       λ h. absurd (omega arith),
     )
 
@@ -55,10 +58,10 @@ cast-again : tie.Need-cast-again Inv-loop μ-loop
 cast-again c = search needs
 
 again-requires : tie.Need-again-requires Inv-loop μ-loop
-again-requires c κs = let a = c .before .before .before .before .before .args in
+again-requires c κs = let a = c .before .before .before .before .before .before .before .args in
     let l = c .before .before .before .loop in
-    let f = rows-fewer (l .end + (a .stop - a .first)) (a .room) (a .n) (omega arith) in
-    (omega arith, omega arith, omega arith)
+    let f = rows-fewer (l .end + (a .stop .0 - a .first .0)) (a .room) (a .n) (omega arith) in
+    (omega arith, omega arith, omega arith, omega arith)
 
 add-end : tie.Need-add-end Inv-loop μ-loop
 add-end c = search needs
@@ -70,31 +73,37 @@ loop-less : tie.Need-loop-less Inv-loop μ-loop
 loop-less c = search needs
 
 loop-again : tie.Need-loop-again Inv-loop μ-loop
-loop-again c = let a = c .before .before .before .before .before .before .before .before .args in
+loop-again c = let a = c .before .before .before .before .before .before .before .before .before .before .args in
     let l = c .before .before .before .before .before .before .loop in
-    let count = a .stop - a .first in
-    let S = part (a .n) count (a .first * a .n) (a .out .now) in
+    let k = c .before .before .again in
+    let count = a .stop .0 - a .first .0 in
+    let S = part (a .n) count (a .first .0 * a .n) (a .out .now) in
     let f = rows-fewer (l .end) (a .room) (a .n) (omega arith) in
-    let g = rows-fewer (a .stop) (a .room) (a .n) (omega arith) in (
+    let g = rows-fewer (a .stop .0) (a .room) (a .n) (omega arith) in (
       omega arith,
       omega arith,
       omega arith,
       omega arith,
-      c .before .before .again .kept .0 ∙ l .inv .4,
-      omega (arith, copies-next (a .k) (a .last + 1) (l .e) count S (omega arith) (length-firstRows (a .n) count (drop (a .first * a .n) (a .out .now)))),
-      repeat-more (a .n) (a .k) (a .first) count (a .stop) (a .last + 1) (l .e) (l .end) (l .out) (c .before .before .again .last .0) (a .out .now) (omega arith) (omega arith) (omega arith) (omega arith) (omega arith) (l .inv .6) (c .before .before .again .ensures),
+      k .kept .0 ∙ l .inv .4,
+      omega (
+        arith,
+        copies-next (a .i .0 - 1) (a .last + 1) (l .e) count S (omega arith)
+            (length-firstRows (a .n) count (drop (a .first .0 * a .n) (a .out .now))),
+      ),
+      repeat-more (a .n) (a .i .0 - 1) (a .first .0) count (a .stop .0) (a .last + 1) (l .e) (l .end) (l .out) (k .last .0) (a .out .now)
+          (omega arith) (omega arith) (omega arith) (omega arith) (omega arith) (l .inv .6) (k .ensures),
     )
 
 same-length-2 : tie.Need-same-length-2 Inv-loop μ-loop
 same-length-2 c = search needs
 
 returns-2 : tie.Need-returns-2 Inv-loop μ-loop
-returns-2 c = let a = c .before .before .before .args in
+returns-2 c = let a = c .before .before .before .before .before .args in
     let l = c .before .loop in
-    let S = part (a .n) (a .stop - a .first) (a .first * a .n) (a .out .now) in
+    let S = part (a .n) (a .stop .0 - a .first .0) (a .first .0 * a .n) (a .out .now) in
     let j : l .e - suc (a .last) ≡ a .a - suc (a .last) = omega arith in
     let s : a .last + 1 ≡ suc (a .last) = add-one (a .last) in
-    let e : l .end ≡ a .stop + length (copies (a .k) (suc (a .last)) (a .a - suc (a .last)) S) = l .inv .5 ∙ rw (s, j) in
+    let e : l .end ≡ a .stop .0 + length (copies (a .i .0 - 1) (suc (a .last)) (a .a - suc (a .last)) S) = l .inv .5 ∙ rw (s, j) in
     (e ∙ sym (fit-within (a .room) _ (omega arith)), λ h. l .inv .6 ∙ rw (s, j))
 
 pub repeat-spec : {M : Type 1} → statement M

@@ -1,4 +1,4 @@
--- `set_column` meets its contract. The first i rows have the new exponent.
+-- `set_column` meets its contract. The first j rows have the new exponent.
 use Rattle.terms.proofs.RowsLaws.{row-fits}
 use Rattle.completion.proofs.CodeRows.{columned, columned-length, columned-start, columned-take, column-more}
 use Rattle.completion.proofs.CodeBytes.{times-large}
@@ -11,59 +11,62 @@ use Rattle.completion.proofs.set_column.Statement.{statement}
 use Rattle.completion.proofs.set_column.Tie as tie
 
 abbrev Inv-loop : tie.InvT-loop
-Inv-loop out₀ n k first count e i₀ out i = (i ≤ count) × (out ≡ columned out₀ n k first e i)
+Inv-loop out₀ n count e row place j₀ out j = (j ≤ count) × (out ≡ columned out₀ n place row e j)
 
 abbrev μ-loop : tie.MeasureT-loop
-μ-loop out₀ n k first count e i₀ out i = count - i
+μ-loop out₀ n count e row place j₀ out j = count - j
+
+sub-place : tie.Need-sub-place Inv-loop μ-loop
+sub-place c = search needs
 
 loop-holds : tie.Need-loop-holds Inv-loop μ-loop
-loop-holds c = let a = c .args in (omega arith, columned-start (a .out .now) (a .n) (a .k) (a .first) (a .e))
+loop-holds c = let a = c .before .args in (omega arith, columned-start (a .out .now) (a .n) (a .i .0 - 1) (a .first .0) (a .e))
+
+-- row j of the block lies in the buffer
+row-lies : (c : tie.In-loop Inv-loop μ-loop) → let a = c .before .before .before .args in
+    (a .first .0 + c .before .loop .j) * a .n + a .n ≤ length (a .out .now)
+row-lies c = let a = c .before .before .before .args in
+    row-fits (a .first .0 + c .before .loop .j) (a .first .0 + a .count) (a .n) (length (a .out .now)) (omega arith) (omega arith)
 
 add-out : tie.Need-add-out Inv-loop μ-loop
-add-out c = let a = c .before .before .args in
-    let f = row-fits (a .first + c .before .loop .i) (a .first + a .count) (a .n) (length (a .out .now)) (omega arith) (omega arith) in
-    let g = times-large (a .first + c .before .loop .i) (a .n) (omega arith) in
-    omega arith
+add-out c = let a = c .before .before .before .args in
+    let g = times-large (a .first .0 + c .before .loop .j) (a .n) (omega arith) in
+    omega (arith, row-lies c)
 
 mul-out : tie.Need-mul-out Inv-loop μ-loop
-mul-out c = let a = c .before .before .args in
-    let f = row-fits (a .first + c .before .loop .i) (a .first + a .count) (a .n) (length (a .out .now)) (omega arith) (omega arith) in
-    omega arith
+mul-out c = omega (arith, row-lies c)
 
 add-out-2 : tie.Need-add-out-2 Inv-loop μ-loop
-add-out-2 c = let a = c .before .before .args in
-    let f = row-fits (a .first + c .before .loop .i) (a .first + a .count) (a .n) (length (a .out .now)) (omega arith) (omega arith) in
-    omega arith
+add-out-2 c = omega (arith, row-lies c)
 
 slice-write-out : tie.Need-slice-write-out Inv-loop μ-loop
-slice-write-out c = let a = c .before .before .args in
+slice-write-out c = let a = c .before .before .before .args in
     let l = c .before .loop in
-    let f = row-fits (a .first + l .i) (a .first + a .count) (a .n) (length (a .out .now)) (omega arith) (omega arith) in
-    rw (l .inv .1, columned-length (a .out .now) (a .n) (a .k) (a .first) (a .e) (l .i) (omega arith)) (omega arith)
+    let f = row-lies c in
+    rw (l .inv .1, columned-length (a .out .now) (a .n) (a .i .0 - 1) (a .first .0) (a .e) (l .j) (omega arith)) (omega arith)
 
-add-i : tie.Need-add-i Inv-loop μ-loop
-add-i c = search needs
+add-j : tie.Need-add-j Inv-loop μ-loop
+add-j c = search needs
 
 loop-less : tie.Need-loop-less Inv-loop μ-loop
 loop-less c = search needs
 
 loop-again : tie.Need-loop-again Inv-loop μ-loop
-loop-again c = let a = c .before .before .args in
+loop-again c = let a = c .before .before .before .args in
     let l = c .before .loop in
-    let f = row-fits (a .first + l .i) (a .first + a .count) (a .n) (length (a .out .now)) (omega arith) (omega arith) in
-    (omega arith, column-more (a .out .now) (a .n) (a .k) (a .first) (a .e) (l .out) (l .i) (omega arith) (omega arith) (l .inv .1))
+    (omega arith, column-more (a .out .now) (a .n) (a .i .0 - 1) (a .first .0) (a .e) (l .out) (l .j) (row-lies c) (omega arith) (l .inv .1))
 
 same-length : tie.Need-same-length Inv-loop μ-loop
-same-length c = let a = c .before .before .args in
+same-length c = let a = c .before .before .before .args in
     let l = c .before .loop in
-    let e : l .i ≡ a .count = omega arith in
-    let g : (a .first + l .i) * a .n ≤ length (a .out .now) = rw e (omega arith) in
-    rw (l .inv .1, columned-length (a .out .now) (a .n) (a .k) (a .first) (a .e) (l .i) g)
+    let e : l .j ≡ a .count = omega arith in
+    let g : (a .first .0 + l .j) * a .n ≤ length (a .out .now) = rw e (omega arith) in
+    rw (l .inv .1, columned-length (a .out .now) (a .n) (a .i .0 - 1) (a .first .0) (a .e) (l .j) g)
 
 returns : tie.Need-returns Inv-loop μ-loop
-returns c = let a = c .before .before .args in
+returns c = let a = c .before .before .before .args in
     let l = c .before .loop in
-    columned-take (a .out .now) (a .n) (a .k) (a .first) (a .e) (l .out) (l .i) (a .count) (omega arith) (omega arith) (l .inv .1)
+    columned-take (a .out .now) (a .n) (a .i .0 - 1) (a .first .0) (a .e) (l .out) (l .j) (a .count) (omega arith) (omega arith) (l .inv .1)
 
 pub set-column-spec : {M : Type 1} → statement M
 set-column-spec =
@@ -71,12 +74,13 @@ set-column-spec =
     (tie.spec
     Inv-loop
     μ-loop
+    sub-place
     loop-holds
     add-out
     mul-out
     add-out-2
     slice-write-out
-    add-i
+    add-j
     loop-less
     loop-again
     same-length

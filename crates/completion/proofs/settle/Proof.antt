@@ -19,10 +19,10 @@ sub-count c = search needs
 
 -- the rows lie within the room, and they are fewer than the generators
 compact-requires : tie.Need-compact-requires
-compact-requires c κs = let a = c .before .before .before .before .before .args in
-    let whole : a .start + (a .end - a .start) ≡ a .end = omega arith in
+compact-requires c κs = let a = c .before .before .before .before .before .before .args in
+    let whole : a .start .0 + (a .end - a .start .0) ≡ a .end = omega arith in
     let f = rows-fewer (a .end) (a .room) (a .n) (omega arith) in
-    let g = rows-fewer (a .end - a .start) (a .all) (a .rest) (omega arith) in
+    let g = rows-fewer (a .end - a .start .0) (a .all) (a .rest) (omega arith) in
     (rw whole (omega arith), omega arith, omega arith)
 
 same-length : tie.Need-same-length

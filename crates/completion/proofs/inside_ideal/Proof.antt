@@ -1,14 +1,14 @@
--- `covered` meets its contract. The rows that are left to test decide the whole.
+-- `inside_ideal` meets its contract. The rows that are left to test decide the whole.
 use Rattle.terms.specs.Ideal.{insideTest}
 use Rattle.completion.specs.Code.{part}
-use Rattle.completion.proofs.CodeBytes.{times-pred, covered-stop, covered-on, covered-end}
+use Rattle.completion.proofs.CodeBytes.{times-pred, inside-stop, inside-on, inside-end}
 use borrow.Author.Needs.{needs}
 use native.Mathlib.Omega.{arith}
 use mathlib.Core.Path.{_≡_, sym, _∙_}
 use Prim.Native.Nat.{_+_, _*_, _≤_}
 use lib.ListN.{length, take, drop}
-use Rattle.completion.proofs.covered.Statement.{statement}
-use Rattle.completion.proofs.covered.Tie as tie
+use Rattle.completion.proofs.inside_ideal.Statement.{statement}
+use Rattle.completion.proofs.inside_ideal.Tie as tie
 
 abbrev Inv-loop : tie.InvT-loop
 Inv-loop bytes from count m q place₀ left₀ place left = (place + left * m ≤ length bytes) × (insideTest (part m count from bytes) (take m (drop q bytes)) ≡ insideTest (part m left place bytes) (take m (drop q bytes)))
@@ -28,7 +28,7 @@ divides-at-requires c κs = let a = c .before .before .before .args in
 returns : tie.Need-returns Inv-loop μ-loop
 returns c = let a = c .before .before .before .before .before .args in
     let l = c .before .before .before .loop in
-    sym (l .inv .1 ∙ covered-stop (a .m) (l .left) (l .place) (a .bytes .now) (take (a .m) (drop (a .q) (a .bytes .now))) (omega arith) (sym (c .before .divides-at .ensures) ∙ c .if1 .taken))
+    sym (l .inv .1 ∙ inside-stop (a .m) (l .left) (l .place) (a .bytes .now) (take (a .m) (drop (a .q) (a .bytes .now))) (omega arith) (sym (c .before .divides-at .ensures) ∙ c .if1 .taken))
 
 add-place : tie.Need-add-place Inv-loop μ-loop
 add-place c = search needs
@@ -43,16 +43,16 @@ loop-again : tie.Need-loop-again Inv-loop μ-loop
 loop-again c = let a = c .before .before .before .before .before .args in
     let l = c .before .before .before .loop in
     let s = times-pred (l .left) (a .m) (omega arith) in
-    (omega arith, l .inv .1 ∙ covered-on (a .m) (l .left) (l .place) (a .bytes .now) (take (a .m) (drop (a .q) (a .bytes .now))) (omega arith) (sym (c .before .divides-at .ensures) ∙ c .if1 .left))
+    (omega arith, l .inv .1 ∙ inside-on (a .m) (l .left) (l .place) (a .bytes .now) (take (a .m) (drop (a .q) (a .bytes .now))) (omega arith) (sym (c .before .divides-at .ensures) ∙ c .if1 .left))
 
 returns-2 : tie.Need-returns-2 Inv-loop μ-loop
 returns-2 c = let a = c .before .before .before .args in
     let l = c .before .loop in
     let e : l .left ≡ 0 = omega arith in
-    sym (l .inv .1 ∙ rw e (covered-end (a .m) (l .place) (a .bytes .now) (take (a .m) (drop (a .q) (a .bytes .now)))))
+    sym (l .inv .1 ∙ rw e (inside-end (a .m) (l .place) (a .bytes .now) (take (a .m) (drop (a .q) (a .bytes .now)))))
 
-pub covered-spec : {M : Type 1} → statement M
-covered-spec =
+pub inside-ideal-spec : {M : Type 1} → statement M
+inside-ideal-spec =
     tie.close
     (tie.spec
     Inv-loop

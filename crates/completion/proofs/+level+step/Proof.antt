@@ -332,7 +332,8 @@ step-repeat-requires t c κs =
     let s = step-start t (c .before .before .before .before .before .before) in
     let q = s .pre .1 in
     let x = step-sizes t s in
-    (x .block, q .7 .3 .within, q .0 .holds, q .0 .most, omega (arith, q .0 .variables), omega (arith, q .0 .variables), omega (arith, q .2), omega (arith, q .2))
+    let v = q .0 .variables in
+    (x .block, q .7 .3 .within, q .0 .holds, q .0 .most, omega (arith, v), omega (arith, v), omega (arith, q .2), omega (arith, q .2))
 
 step-passed-requires : (t : ℕ) → step-lts.Need-passed-requires (step-claims t) (step-at t) step.Post
 step-passed-requires t c κs = search needs

@@ -68,7 +68,11 @@ def public_operations():
 
 
 def unconditional():
-    """A public operation presumes nothing of its caller."""
+    """A public operation presumes nothing of its caller, and each exported function is listed as one."""
+    listed = {name for name, _ in public_operations()}
+    exported = {name for path in rattle_files() for name in re.findall(r'extern "C" fn (\w+)', read(path))}
+    if not listed or exported - listed:
+        raise Fault(f'docs/PROMISES.md lists {len(listed)} operations and lacks {sorted(exported - listed)}')
     for name, path in public_operations():
         found = {function: clauses for function, _, clauses in functions(path)}
         if name not in found:

@@ -35,8 +35,9 @@ def refused_at(log):
     """The function and the fact of the first error."""
     found = FIRST.search(log)
     if found:
-        function = found.group(1).split('/')[-1]
-        return f'`{function}`: {in_words(function, found.group(2))}'
+        names = [name for name in found.group(1).split('/')[-1].split('+') if name]
+        function = next((name for name in names if found.group(2).startswith(name.replace('_', '-') + '-')), names[0])
+        return f'`{function}`: {in_words(function.replace("_", "-"), found.group(2))}'
     found = OTHER.search(log)
     return f'{found.group(1)}/{found.group(2)}: {found.group(3)}' if found else 'nothing'
 

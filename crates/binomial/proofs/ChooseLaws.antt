@@ -2,7 +2,7 @@
 --
 --   choose-over, choose-self   a bottom above the top gives 0, and the top itself 1
 --   choose-one             a bottom of 1 gives the top
---   choose-up, choose-monotone a larger top gives no less
+--   choose-up, choose-monotone   a larger top gives no less
 --   choose-positive        a bottom within the top gives at least 1
 --   hockey-stick           the sum of C(j + m, m) for j up to t is C(t + m + 1, m + 1)
 --   choose-absorb          (k + 1) C(n + 1, k + 1) is (n + 1) C(n, k)

@@ -3,7 +3,7 @@
 --   ascending-make, -append, -keep   an ascending list from a first row and a list, from two lists, from the rows kept of one
 --   ascending-front        an ascending list that has every row of another up to its own last one is a front part of it
 --   precedes-head, head-precedes   the order and the first exponents
---   behind-.., repeated-.. the rows of these blocks, and that they ascend
+--   behind-.., repeated-..   the rows of these blocks, and that they ascend
 --   box-row, box-member, box-ascending   the box has exactly the monomials within its caps
 --   Lists P H              the rows of H are exactly the monomials with P, and they ascend
 --   lists-unique           there is one such list

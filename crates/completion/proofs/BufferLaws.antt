@@ -5,7 +5,7 @@
 --   after-size             the rows behind a front of k exponents have k more
 --   after-append, -behind, -set, -drop   a block in a buffer: appended, under the next front, copied with one column set, without its first columns
 --   fit-within, fit-beyond, beyond-fit, fit-part   room, and that running out of it is final
---   walk-fit, walked-fit   a walk that has run out of room has the answer of the whole
+--   walk-fit               a walk that has run out of room has the answer of the whole
 use mathlib.Core.Path.{_≡_, refl, sym, ap, _∙_}
 use mathlib.Core.List.{List, [], _∷_, _++_, map, append-assoc, Memᴰ·of-map}
 use mathlib.Core.Logic.{by-cases}
@@ -17,9 +17,9 @@ use Rattle.terms.specs.Tests.{pick-true, pick-false, tests-le}
 use Rattle.terms.specs.Monomials.{Monomial, Table, OfSize}
 use Rattle.terms.specs.Rows.{flat}
 use Rattle.completion.specs.Blocks.{behind, repeated}
-use Rattle.completion.specs.Slices.{Walk, stepped, walk, slices, after, fit, Walked}
+use Rattle.completion.specs.Slices.{stepped, walk, slices, after, fit}
 use Rattle.completion.proofs.BlockLaws.{cons-same}
-use Rattle.completion.proofs.WalkLaws.{walk-part, walked-part}
+use Rattle.completion.proofs.WalkLaws.{walk-part}
 
 -- ---- bytes
 
@@ -126,9 +126,3 @@ pub walk-fit : (n : ℕ) (G : Table) → OfSize (suc n) G → (room from a : ℕ
 walk-fit n G z room from a h =
     let r = walk-part n G z a in
     fit-part (walk (λ H. slices n H) G a .written) (r .0) (r .1) room from h
-
-pub walked-fit : {n : ℕ} {G : Table} → OfSize (suc n) G → {a : ℕ} {w : Walk} → Walked n G a w → (room from : ℕ) → room < from + length (w .written) →
-    fit room (from + length (slices (suc n) G)) ≡ suc room
-walked-fit z {w = w} k room from h =
-    let r = walked-part z k in
-    fit-part (w .written) (r .0) (r .1) room from h

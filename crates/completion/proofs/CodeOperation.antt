@@ -2,7 +2,7 @@
 --
 --   collect-roomy, copied-fits, links-fit   the working arrays are large enough
 --   collected              the recursion on the whole table gives rule 5's table
---   room-whole, room-limit the room, where it is the buffer's and where it is 4,096
+--   room-whole, room-limit   the room, where it is the buffer's and where it is 4,096
 --   checked, collect-asks  what the checks let pass, and that it can be collected
 --   complete-early, complete-full, complete-done   the promise: refused by the checks 1 to 4, refused for room, accepted
 use mathlib.Core.Path.{_≡_, sym, ap, _∙_, subst}

@@ -18,7 +18,7 @@ use Rattle.terms.specs.Rows.{firstRows, flat}
 use Rattle.terms.proofs.RowsLaws.{length-firstRows, firstRows-size, length-flat}
 use Rattle.completion.specs.Blocks.{behind, repeated}
 use Rattle.completion.specs.Slices.{at, fresh, Walk, shorter, grown, walk, slices, after, fit}
-use Rattle.completion.specs.Code.{part, copies, Appended, Settled, Standing, Stepped, Roomy}
+use Rattle.completion.specs.Code.{part, copies, Appended, LevelEnded, Standing, Stepped, Roomy}
 use Rattle.completion.specs.declared.Progress.{Progress}
 use Rattle.completion.proofs.SliceLaws.{at-size}
 use Rattle.completion.proofs.WalkLaws.{slices-size, size-both, walk-stays, walk-grows, walk-room, walk-generators, walk-block, walk-written, walk-end}
@@ -312,7 +312,7 @@ module _ {T : Table} {start : ℕ} {P : List ℕ} {n rest rows : ℕ} {head : Li
                 ∙ after-drop p a C
 
           pub step-settles : {r : Progress} {work₂ : List ℕ} →
-              Settled n rest (w .generators + more) base row end a room back out₂ r work₂ → length work₂ ≡ length back →
+              LevelEnded n rest (w .generators + more) base row end a room back out₂ r work₂ → length work₂ ≡ length back →
               Stepped T start P n rest rows head room a work r work₂ out₂
           step-settles {r} {work₂} Z l =
               let all : ℕ = start + length (walk (λ H. slices rest H) T (suc a) .written) in

@@ -2,16 +2,16 @@
 --
 --   slice-row, -member, -size   the rows of a slice
 --   Slice P G q            q is in the ideal of the tails of the rows whose head has P; below-use, below-make: for the heads below a
---   slice-into, slice-back law 2: a ∷ q is in the ideal of G exactly where q is in that of the slice of the heads up to a
+--   slice-into, slice-back   law 2: a ∷ q is in the ideal of G exactly where q is in that of the slice of the heads up to a
 --   Beyond a G             the tail of some row is outside the ideal of the slice below a
 --   completed-slice, slice-completed   law 3: rule 5 by slices
 --   Grows a G              the tail of some row of head a is outside the ideal of the slice below a: the ideal grows at a
 --   tests-grows, still, grows-beyond, beyond-grows   law 4
 --   tests-grows-by, generates-under    law 6: other generators
 --   Last G a last          last is the largest growing head below a, or 0
---   Settled n S            what S gives for a table depends on its ideal alone, and lies in it
+--   ByIdeal n S            what S gives for a table depends on its ideal alone, and lies in it
 --   Upto S G a last        the monomials b ∷ t with b below a and at most last, and t of S for the slice up to b
---   upto-stays, upto-grows law 5: one step, for any settled S
+--   upto-stays, upto-grows   law 5: one step, for any S that ideals settle (`ByIdeal`)
 --   front-table, finish    Janet: after the heads below a, the completed table of the rows with such a head
 --   front-part             what is written at any time is a front part of the completed table
 --   no-variables, one-variable   law 7
@@ -343,16 +343,16 @@ module _ {n : ℕ} (a : ℕ) {sub : Table} (G : Table) (s : SameIdeal n sub (bel
 
 -- ---- law 5: one step
 -- If a does not grow nothing is added; if it grows, the block of the slices below a under each head since the last growing one, and then its own block.
--- Stated for any S that the ideal settles, so that other completions go the same way.
+-- Stated for any S that the ideal settles.
 
-pub record Settled (n : ℕ) (S : Table → Monomial → Type 0) : Type 0 where
+pub record ByIdeal (n : ℕ) (S : Table → Monomial → Type 0) : Type 0 where
   pub moves : (G H : Table) → SameIdeal n G H → (u : Monomial) → S G u → S H u
   pub within : (G : Table) (u : Monomial) → S G u → Inside G u
 
-pub moves-lists : {n : ℕ} {S : Table → Monomial → Type 0} → Settled n S → (G H : Table) {K : Table} → SameIdeal n G H → Lists (S G) K → Lists (S H) K
+pub moves-lists : {n : ℕ} {S : Table → Monomial → Type 0} → ByIdeal n S → (G H : Table) {K : Table} → SameIdeal n G H → Lists (S G) K → Lists (S H) K
 moves-lists y G H s l = lists-as (y .moves G H s) (y .moves H G (same-ideal-sym s)) l
 
-pub completed-settled : (n : ℕ) → Settled n (Completed n)
+pub completed-settled : (n : ℕ) → ByIdeal n (Completed n)
 completed-settled n = record { moves = λ G H s u c. completed-ideal s c; within = λ G u c. c .inside }
 
 pub record Last (G : Table) (a last : ℕ) : Type 0 where
@@ -374,7 +374,7 @@ last-grows g = record { largest = λ b h k. omega arith; real = inr (omega arith
 abbrev pub Upto : (Table → Monomial → Type 0) → Table → ℕ → ℕ → Monomial → Type 0
 Upto S G a last = Heads (λ b. (b < a) × (b ≤ last)) (λ b t. S (under b G) t)
 
-module _ {n : ℕ} {S : Table → Monomial → Type 0} (y : Settled n S) (G : Table) {a last : ℕ} (k : Last G a last) where
+module _ {n : ℕ} {S : Table → Monomial → Type 0} (y : ByIdeal n S) (G : Table) {a last : ℕ} (k : Last G a last) where
   pub upto-stays : {L : Table} → (Grows a G → ⊥) → Lists (Upto S G a last) L → Lists (Upto S G (suc a) last) L
   upto-stays g l = lists-as (λ u h. heads-as (λ b t i p. (omega (arith, p .0), p .1)) h) (λ u h. heads-as earlier h) l
     where

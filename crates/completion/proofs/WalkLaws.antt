@@ -1,5 +1,5 @@
 -- The recursion by slices gives rule 5's table.
--- The walk over the heads is stated for any family of tables that ideals settle, so that other completions go the same way; Janet's is the first.
+-- The walk over the heads is stated for any family of tables that ideals settle; Janet's is one.
 --
 --   Family n S Ok          what the walk asks of S, and of the tables that it gives to the recursion
 --   Passed a w             what holds of a walk that has passed the heads below a
@@ -12,8 +12,7 @@
 --   walk-few, walk-room    the generators are no more than the rows passed, and with the tails of a head no more than the rows
 --   walk-generators, walk-block, walk-written   the sizes of the rows in the walk of `slices`
 --   walk-part, walk-done   what the walk has written is a front part of the result, and past the last head it is the result
---   walked-start, -stays, -grows, -step, -done   the walk with any generators of the ideal, as code keeps it
-use mathlib.Core.Path.{_≡_, refl, sym, ap, _∙_, subst}
+use mathlib.Core.Path.{_≡_, refl, sym, ap}
 use mathlib.Core.Bool.{Bool, true, false}
 use mathlib.Core.List.{[], _∷_, _++_, map, tail, List·Memᴰ·head, List·Memᴰ·not-nil, List·Memᴰ·append-cases}
 use mathlib.Core.Logic.{⊎-elim}
@@ -22,25 +21,24 @@ use native.Mathlib.Nat.{not-suc-le-zero}
 use native.Mathlib.Omega.{arith}
 use lib.Dec.{T, ltb, eqb}
 use lib.ListN.{length, length-append}
-use Rattle.terms.specs.Tests.{Tests, pick, keep, tests-lt, tests-eq, true-tests, false-tests, tests-true, tests-false}
+use Rattle.terms.specs.Tests.{Tests, pick, keep, tests-lt, tests-eq}
 use Rattle.terms.specs.Monomials.{Monomial, Table, _!_, _∈_, OfSize}
 use Rattle.terms.specs.Ideal.{SameIdeal}
 use Rattle.terms.proofs.IdealLaws.{inside-none, same-ideal-refl, same-ideal-sym, same-ideal-trans}
 use Rattle.completion.specs.Blocks.{behind, repeated}
 use Rattle.completion.specs.Completed.{Completed, CompletedTable, completed}
-use Rattle.completion.specs.Slices.{slice, at, below, under, front, heads, fresh, Walk, started, shorter, stepped, grown, step, walk, slices}
-use Rattle.completion.specs.Slices.{Walked}
+use Rattle.completion.specs.Slices.{slice, at, below, under, front, heads, fresh, Walk, started, shorter, grown, step, walk, slices}
 use Rattle.completion.proofs.BlockLaws.{Lists, lists-none}
 use Rattle.completion.proofs.CompletedLaws.{completed-table, completed-same-ideal}
 use Rattle.completion.proofs.CompletionLaws.{completion-ideal}
 use Rattle.completion.proofs.SliceLaws.{table-lists, lists-table, at-size, below-none, Grows, still-ideal, tests-grows-by, generates-under}
-use Rattle.completion.proofs.SliceLaws.{Settled, moves-lists, completed-settled, Last, last-start, last-stays, last-grows, Upto, upto-stays}
+use Rattle.completion.proofs.SliceLaws.{ByIdeal, moves-lists, completed-settled, Last, last-start, last-stays, last-grows, Upto, upto-stays}
 use Rattle.completion.proofs.SliceLaws.{upto-grows, front-table, finish, front-part, heads-above, empty, no-variables, one-variable, Least}
 
 -- ---- the walk over the heads
 
 pub record Family (n : ℕ) (S : Table → Monomial → Type 0) (Ok : Table → Type 0) : Type 0 where
-  pub settled : Settled n S
+  pub settled : ByIdeal n S
   pub none : Ok []
   pub both : (G H : Table) → Ok G → Ok H → Ok (G ++ H)
   pub made : (G K : Table) → Ok G → Lists (S G) K → Ok K
@@ -262,102 +260,3 @@ walk-part n G z a = front-part n G z a (janet-front n G z (slices-table n) a) (s
 -- past the last head it is the result
 pub walk-done : (n : ℕ) (G : Table) → OfSize (suc n) G → (a : ℕ) → ((u : Monomial) → u ∈ G → u ! 1 < a) → walk (λ H. slices n H) G a .written ≡ slices (suc n) G
 walk-done n G z a h = sym (slices-unique z (same-ideal-refl (suc n) G) (finish n G h (janet-front n G z (slices-table n) a)))
-
--- ---- the walk with any generators of the ideal
-
-pub walked-start : (n : ℕ) (G : Table) → Walked n G 0 started
-unfolding walk
-walked-start n G = record {
-  written = refl;
-  block = refl;
-  last = refl;
-  size = size-none n;
-  ideal = record { into = λ q e h. absurd (inside-none q h); back = λ q e h. absurd (below-none G h) };
-}
-
-module _ {n : ℕ} {G : Table} (z : OfSize (suc n) G) {a : ℕ} {w : Walk} (h : Walked n G a w) where
-  -- the walk of `slices` itself
-  abbrev model : Walk
-  model = walk (λ H. slices n H) G a
-
-  model-ideal : SameIdeal n (model .generators) (below a G)
-  model-ideal = janet-passed n G z (slices-table n) a .ideal
-
-  model-stays : (Grows a G → ⊥) → walk (λ H. slices n H) G (suc a) ≡ model
-  model-stays g = walk-stays (λ H. slices n H) G a (sym (tests-false (tests-grows-by a G model-ideal z) g))
-
-  model-grows : Grows a G → walk (λ H. slices n H) G (suc a) ≡ grown (λ H. slices n H) a model (model .generators ++ at a G)
-  model-grows g = walk-grows (λ H. slices n H) G a (sym (tests-true (tests-grows-by a G model-ideal z) g))
-
-  -- at a head that does not grow nothing changes
-  pub walked-stays : fresh (w .generators) (at a G) ≡ false → Walked n G (suc a) w
-  walked-stays e =
-      let g : Grows a G → ⊥ = false-tests (tests-grows-by a G (h .ideal) z) e in
-      let s = sym (model-stays g) in
-      record {
-        written = h .written ∙ ap (λ (v : Walk). v .written) s;
-        block = h .block ∙ ap (λ (v : Walk). v .block) s;
-        last = h .last ∙ ap (λ (v : Walk). v .last) s;
-        size = h .size;
-        ideal = same-ideal-trans (h .ideal) (same-ideal-sym (still-ideal n g));
-      }
-
-  -- At a growing head: K is whatever generates the ideal of the generators and the tails of head a, N whatever is kept of it.
-  pub walked-grows : (K N : Table) → fresh (w .generators) (at a G) ≡ true → OfSize n K → SameIdeal n K (w .generators ++ at a G) → OfSize n N →
-      SameIdeal n N K →
-      Walked n G (suc a) (record { written = stepped (w .written) (w .last) (w .block) a (slices n K); block = slices n K; generators = N; last = a })
-  unfolding grown
-  walked-grows K N e k s l t =
-      let g : Grows a G = true-tests (tests-grows-by a G (h .ideal) z) e in
-      let m = sym (model-grows g) in
-      let u : SameIdeal n K (under a G) = same-ideal-trans s (generates-under a G (h .ideal)) in
-      let same : slices n K ≡ slices n (model .generators ++ at a G) = slices-same k
-      (size-both n (model .generators) (at a G) (janet-passed n G z (slices-table n) a .fine) (at-size a G z))
-      (same-ideal-trans u (same-ideal-sym (generates-under a G model-ideal))) in
-      record {
-        written = rw (h .written, h .block, h .last, same) (ap (λ (v : Walk). v .written) m);
-        block = same ∙ ap (λ (v : Walk). v .block) m;
-        last = ap (λ (v : Walk). v .last) m;
-        size = l;
-        ideal = same-ideal-trans t u;
-      }
-
-  -- the model's own step, which keeps the shorter of the block and its generators
-  pub walked-step : Walked n G (suc a) (step (λ H. slices n H) G a w)
-  unfolding step grown shorter
-  walked-step = go (fresh (w .generators) (at a G)) refl
-    where
-      K : Table
-      K = w .generators ++ at a G
-
-      size : OfSize n K
-      size = size-both n (w .generators) (at a G) (h .size) (at-size a G z)
-
-      either : (P : Table → Type 0) (c : Bool) → P (slices n K) → P K → P (pick c (slices n K) K)
-      either P true p q = p
-      either P false p q = q
-
-      go : (c : Bool) → fresh (w .generators) (at a G) ≡ c → Walked n G (suc a) (pick c (grown (λ H. slices n H) a w K) w)
-      go true e = walked-grows K (shorter (slices n K) K) e size (same-ideal-refl n K)
-          (either (OfSize n) (ltb (length (slices n K)) (length K)) (slices-size n K size) size)
-          (either (λ (N : Table). SameIdeal n N K) (ltb (length (slices n K)) (length K))
-          (same-ideal-sym (completion-ideal n K size (slices-table n K size))) (same-ideal-refl n K))
-      go false e = walked-stays e
-
-  -- the block stands at the end of what is written
-  pub walked-end : (R : Table) × (R ++ behind (w .last) (w .block) ≡ w .written)
-  walked-end =
-      let r = janet-passed n G z (slices-table n) a .end in
-      (r .0, rw (h .written, h .block, h .last) (r .1))
-
-  -- it is the completed table of the slices below a
-  pub walked-block : CompletedTable n (below a G) (w .block)
-  walked-block = subst (λ (B : Table). CompletedTable n (below a G) B) (sym (h .block)) (lists-table (janet-passed n G z (slices-table n) a .block))
-
-  pub walked-part : (R : Table) × (w .written ++ R ≡ slices (suc n) G)
-  walked-part =
-      let r = walk-part n G z a in
-      (r .0, rw (h .written) (r .1))
-
-  pub walked-done : ((u : Monomial) → u ∈ G → u ! 1 < a) → w .written ≡ slices (suc n) G
-  walked-done o = h .written ∙ walk-done n G z a o

@@ -6,8 +6,8 @@
 --   Linked, Firsts       rows chained by head
 --   space m              the bytes that a row of m exponents and its tails take
 --   Appended             what `level` does: the completed table behind a front, at the end of what is written
---   Standing             the code's walk after the heads below a is the model's
---   Settled              what `settle` does: the walk's state once the level of a head has ended
+--   Standing             the code's walk after the heads below a is that of `walk` (Slices)
+--   LevelEnded           what `settle` does: the walk's state once the level of a head has ended
 --   Stepped              what `step` does: the walk goes on by one head
 --   Roomy                sizes that fit, and room in both arrays
 --   Collects, Collected  what `collect` asks and does: the completed table of a table, from the front of an array on
@@ -54,7 +54,7 @@ pub record Appended (n rest rows : ℕ) (head work out : List ℕ) (room at r : 
   pub written : r ≤ room → take (r * n) out' ≡ take (at * n) out ++ flat (after (take (n - suc rest) head) (slices (suc rest) (firstRows (suc rest) rows work)))
   pub kept : take (rows * suc rest) work' ≡ take (rows * suc rest) work
 
--- T is the table, P what was written before its first row, at row `start`.
+-- T is the table; `start` rows were written before its first row, and P are their bytes.
 pub record Standing (T : Table) (start : ℕ) (P : List ℕ) (n rest rows : ℕ) (head : List ℕ) (room a : ℕ) (work out : List ℕ) (w : Progress) : Type 0 where
   pub table : firstRows (suc rest) rows work ≡ T
   pub last : w .last ≡ walk (λ H. slices rest H) T a .last
@@ -67,7 +67,7 @@ pub record Standing (T : Table) (start : ℕ) (P : List ℕ) (n rest rows : ℕ)
 
 -- The rows of the level of head a go from `start` to `stop`. Where there is room for them, they are the block, and the generators are the shorter of their
 -- last exponents and the `all` rows that stood at byte `base`. Where there is none, only the end tells.
-pub record Settled (n rest all base start stop a room : ℕ) (work out : List ℕ) (r : Progress) (work' : List ℕ) : Type 0 where
+pub record LevelEnded (n rest all base start stop a room : ℕ) (work out : List ℕ) (r : Progress) (work' : List ℕ) : Type 0 where
   pub end : r .end ≡ stop
   pub kept : take base work' ≡ take base work
   pub from : stop ≤ room → r .from .0 ≡ start

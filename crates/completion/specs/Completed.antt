@@ -4,6 +4,7 @@
 --                    and enters the ideal when variable i alone is raised enough
 --   Completed n G u  u is in the ideal, and `Enters` holds at each variable where u is above 0
 --   CompletedTable n G H   H is the completed table of the ideal of G: its rows are exactly those, and they ascend
+--   candidate u i g, joined u v   the outside monomial that the test tries; the larger exponents of two monomials
 --   largest n G      the largest exponent of the rows of G at each variable
 --   completed n G    that table as a list that computes: the monomials that pass, of all whose exponents are at most the largest of G
 --

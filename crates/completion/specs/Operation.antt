@@ -6,7 +6,7 @@
 --   completeChecks n table size   the checks in order: 1 to 4 of the table, 8
 --   completeNumber, completeRows  the paper's number of an answer, 0 for none, and the row count, 0 beside a refusal
 --   completeAnswer n table size   the answer: the number of completed rows, or the refusal
---   completeBuffer n table buffer the buffer after it: the completed rows at the front and the bytes behind them as they were; as it was on refusal
+--   completeBuffer n table buffer   the buffer after it: the completed rows at the front and the bytes behind them as they were; as it was on refusal
 --   CompletePromise n table buffer answer after   the promise
 use mathlib.Core.Path.{_≡_}
 use mathlib.Core.List.{List, [], _∷_, _++_}

@@ -1,7 +1,7 @@
 -- The completed table by slices of the first variable, on lists: what the code of `complete` computes, step by step.
 -- A row is written a ∷ q: its head a, the exponent of its first variable, and its tail q. Heads and tails are total (no exponent: head 0, no tail).
 --
---   head u, tail u       the first exponent of u; u without it
+--   head u               the first exponent of u; `tail u`, of the toolchain's lists, is u without it
 --   slice f G            the tails of the rows of G whose head passes f
 --   at a G, below a G, under a G   the slices of the heads equal to a, below a, at most a
 --   front a G            the rows of G with head below a
@@ -9,25 +9,24 @@
 --   fresh G tails        one of the tails is outside the ideal of G
 --   Walk                 the state of the walk over the heads
 --   shorter B G          the one of two tables that has fewer rows, G where they have as many
+--   started, stepped     the walk before the first head; what is written after a growing head
 --   grown f a w G        the walk after a head a that adds to the ideal: G generates the slice of the heads up to a
 --   step f G a w         the walk after head a
 --   walk f G a           the walk after the heads below a
 --   slices n G           the recursion: the walk over all heads of G, with itself on the tails
---   Walked n G a w       w is that walk after the heads below a, with any generators of the ideal, in any order
 --   after p H            the rows of H with the exponents p before each: what is appended behind the first exponents p of a row
 --   fit room e           the end e of what is written, or room + 1 where it is beyond the room
 --
 -- In each, f is the recursion on the tails. The walk writes, for each head a at which the ideal grows, first the last block again under each head
 -- since, and then the block of a. That `slices n G` is rule 5's table is proved in WalkLaws.
-use mathlib.Core.Path.{_≡_}
 use mathlib.Core.Bool.{Bool, not}
 use mathlib.Core.List.{[], _∷_, _++_, map, tail}
 use Prim.Native.Nat.{ℕ, zero, suc, _-_}
 use lib.Dec.{leb, ltb, eqb}
 use lib.ListN.{length}
 use Rattle.terms.specs.Tests.{pick, any, keep}
-use Rattle.terms.specs.Monomials.{Monomial, Table, _!_, OfSize}
-use Rattle.terms.specs.Ideal.{SameIdeal, insideTest}
+use Rattle.terms.specs.Monomials.{Monomial, Table, _!_}
+use Rattle.terms.specs.Ideal.{insideTest}
 use Rattle.completion.specs.Blocks.{behind, repeated}
 
 -- ---- slices of a table
@@ -103,13 +102,6 @@ unfolding walk heads
 slices zero [] = []
 slices zero (u ∷ G) = [] ∷ []
 slices (suc n) G = walk (λ H. slices n H) G (heads G) .written
-
-pub record Walked (n : ℕ) (G : Table) (a : ℕ) (w : Walk) : Type 0 where
-  pub written : w .written ≡ walk (λ H. slices n H) G a .written
-  pub block : w .block ≡ walk (λ H. slices n H) G a .block
-  pub last : w .last ≡ walk (λ H. slices n H) G a .last
-  pub size : OfSize n (w .generators)
-  pub ideal : SameIdeal n (w .generators) (below a G)
 
 -- ---- rows in a buffer
 

@@ -8,7 +8,7 @@
 --   SummedRow, summed-row   what is known of a row in the loops over the rows
 --   splits-..        what a share with a sign is, in each of its cases
 --   splits-add       sums of differences
---   polynomial-split the polynomial as one difference
+--   polynomial-split   the polynomial as one difference
 --   marked-front     a buffer whose front holds the marks is marked
 --   summable         a checked and marked table can be summed
 --   count-sum, polynomial-sum   what the sums over a checked and marked table are

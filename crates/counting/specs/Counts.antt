@@ -40,8 +40,8 @@ unfoldable pub raised : Monomial → Monomial
 raised [] = []
 raised (a ∷ u) = suc a ∷ u
 
--- From f s, the monomials of one variable less up to degree s: the first exponent is 0, or the monomial is one of degree at most s − 1
--- times the first variable.
+-- The monomials up to degree s, where f s are those of one variable less: the first exponent is 0, or it is a monomial up to degree s − 1 times the
+-- first variable.
 unfoldable pub extended : (ℕ → List Monomial) → ℕ → List Monomial
 unfolding raised
 extended f zero = map (λ u. 0 ∷ u) (f zero)

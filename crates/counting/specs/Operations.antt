@@ -5,7 +5,7 @@
 --   orderChecks n table     6 and 7, with which all three end
 --   countChecks n table s   the checks of count and polynomial, in order: 1 to 4 of the table, 5, 6, 7
 --   steadyChecks n table    the checks of steady: 1 to 4, 6, 7
---   countNumber, countValue .. the paper's number of an answer, 0 for none, and the value beside it, 0 beside a refusal
+--   countNumber, countValue, and likewise polynomial.., steady..   the paper's number of an answer, 0 for none, and the value beside it, 0 beside a refusal
 --   CountPromise n table s answer, PolynomialPromise, SteadyPromise   the promise: the number is that of the first check that refuses,
 --                    and where none does the answer is the value of the rule
 use mathlib.Core.Path.{_≡_}

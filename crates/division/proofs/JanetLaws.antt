@@ -4,7 +4,7 @@
 --   in-group, group-in     a row is in the list `group` exactly where it is in the group
 --   multiplicative-same    marks depend on the exponents up to the variable alone
 --   multiplicative-none    what is no variable of the rows is multiplicative
---   divisor-at, at-divisor a divisor by its row, and by its row number
+--   divisor-at, at-divisor   a divisor by its row, and by its row number
 --   at-most-one            where cones are disjoint, a monomial has at most one divisor by row number
 --   largest                in the group of a Janet divisor of q, no exponent that q reaches is larger than the divisor's
 --   same-prefix            Janet divisors of monomials that are equal before i are equal before i

@@ -7,7 +7,7 @@
 --   Distinct G       two row numbers of G have different rows
 --   Disjoint M G     no monomial is in the cones of two row numbers
 --   Covers M n G     each monomial of the ideal of G is in the cone of some row number
---   CompleteBy M n G rule 4, read with the marks M
+--   CompleteBy M n G   rule 4, read with the marks M
 use mathlib.Core.Path.{_≡_}
 use Prim.Native.Nat.{ℕ, _≤_, _<_}
 use lib.ListN.{length}

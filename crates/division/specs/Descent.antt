@@ -2,6 +2,7 @@
 --
 --   Descent          what a descent gives: the row number found, if there is one, the number of exponents stepped on,
 --                    and the variable at which it ended with nothing, 0 where a row was found
+--   insert a l, first l, last l, numbersFrom r k   a number put in its place; the first and the last of a list, if there is one; the k row numbers from r on
 --   distinct l       the distinct numbers of l, ascending
 --   exponents G i g  the distinct exponents of the group g at variable i, ascending
 --   stepped G q i g  those that do not exceed q's: the exponents stepped on

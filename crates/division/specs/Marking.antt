@@ -6,7 +6,7 @@
 --   marked n G buffer     the buffer with the marks of G's rows at its front; the bytes behind stay
 --   marksNumber      the paper's number of an answer, 0 for none
 --   marksAnswer n table size   the answer: done, or the refusal
---   marksBuffer n table buffer the buffer after it: marked, or on refusal as it was
+--   marksBuffer n table buffer   the buffer after it: marked, or on refusal as it was
 --   MarksPromise n table buffer answer after   the promise
 use mathlib.Core.Path.{_≡_}
 use mathlib.Core.List.{List, [], _∷_, _++_}

@@ -6,7 +6,7 @@
 --   field x                one space and a number
 --   tableLine-parts ..     each line as it is written, part by part; tableLine-length ..: how long it is
 --   spaced-next, -part, -fits   the exponents of a row, one after the other
---   rowLines-next, -part, -fits the lines of the rows, one after the other
+--   rowLines-next, -part, -fits   the lines of the rows, one after the other
 --   row-read, row-variables     a row that was read from a table has its exponents and its n
 use mathlib.Core.Path.{_≡_, refl, sym, ap, _∙_}
 use mathlib.Core.List.{List, [], _∷_, _++_, map, append-assoc}

@@ -11,7 +11,7 @@
 --   wholeText        the lines of a table, from its completed table, its marks and a steady degree
 --   completedText n j given H   the lines of table j with so many given rows, whose completed table is H
 --   tableText n j G  the text of table j, whose given rows are G
---   tablesText b j m the texts of the tables j to j + m − 1 of the bundle b
+--   tablesText b j m   the texts of the tables j to j + m − 1 of the bundle b
 --   bundleText b     the whole output for the bundle b
 --   partText b j     its part j: what is written of table j, and of a refused bundle the whole in part 0
 --   partsText b j m  the parts j to j + m − 1

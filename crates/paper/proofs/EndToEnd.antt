@@ -1,6 +1,6 @@
--- From the given rows to the count: what `complete` writes, `count` accepts, and it counts the given rows' ideal.
+-- What the third demand needs to go from the given rows to the count.
 --
---   outside-ideal     what is counted outside an ideal is counted for each of its tables
+--   outside-ideal     two tables of one ideal have the same number of monomials outside
 --   flat-accepted     a table within the limits is within them as bytes
 use mathlib.Core.Path.{refl, sym, ap, _∙_}
 use mathlib.Core.List.{[], _∷_, List·Memᴰ, List·Memᴰ·head, List·Memᴰ·tail, List·Memᴰ·not-nil, List·Memᴰ·append-cases}

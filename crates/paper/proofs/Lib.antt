@@ -1,4 +1,4 @@
--- The demands proved, the examples, and one result for each promise.
+-- The demands proved, the examples, what goes out, and one result for each promise.
 pub mod EndToEnd
 pub mod Demands
 pub mod Examples

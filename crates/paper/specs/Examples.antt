@@ -45,6 +45,7 @@ pub record StarredExamples : Type 0 where
   pub G : Gives (descent 3 tableF (1 ∷ 2 ∷ 5 ∷ [])) (some 3) 4 × Gives (descent 3 tableF (2 ∷ 0 ∷ 1 ∷ [])) none 2
   -- F completes to 11 rows
   pub H : CompletedTable 3 tableF completedF × (length completedF ≡ 11)
+  -- document 004's rows, columns reversed, complete to five rows
   pub I : CompletedTable 3 tableI completedI
   -- D's rows with 6 bytes of room are accepted, with 5 refused by 8
   pub J : ((buffer : List ℕ) (answer : CompleteAnswer) (after : List ℕ) → length buffer ≡ 6 → CompletePromise 2 bytesD buffer answer after → answer ≡ Rows 3)

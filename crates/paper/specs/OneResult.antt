@@ -1,4 +1,5 @@
 -- One result: any two results that the promise of an operation allows are equal, answer and lent bytes.
+-- Of an opened table its numbers, its bytes and where they stand are equal (`SameOpened`).
 --
 --   OneResult     a field for each public operation
 --   OneExport     a field for each exported function

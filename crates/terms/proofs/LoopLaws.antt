@@ -1,7 +1,7 @@
 -- What the loops and the returns of the code need, over plain lists and numbers.
 --
 --   fails-at, never-fails     the two answers of `first_failure`
---   differs-at, never-differs the answers of `compare` and of `precedes_next`
+--   differs-at, never-differs   the answers of `compare` and of `precedes_next`
 --   degree-next               the degree from a place on, and from the next
 --   any-stops, any-goes-on, any-past   a search for an element from a place on
 --   filled, filled-next, filled-row    a row that is being read from the bytes of a table

@@ -3,6 +3,7 @@
 --   Divides u q      no exponent of u exceeds that of q
 --   Inside G q       q is in the ideal of G: some row of G divides it
 --   SameIdeal n G H  G and H have the same ideal among the monomials of n variables
+--   FailsFirstAt u q i   u exceeds q at i and at no variable before it
 --   FirstFailure u q i   i is 0 where u divides q, and otherwise the first variable at which u exceeds q
 --
 -- With the tests `dividesTest`, `insideTest`.

@@ -6,7 +6,7 @@
 --   rowAt G r        row r of G. Rows count from 0
 --   u ∈ G            u is a row of G
 --   OfSize n G       each row of G has n exponents
---   SameBefore i u v u and v are equal in variables 1 to i − 1
+--   SameBefore i u v   u and v are equal in variables 1 to i − 1
 --   times u i k      u times variable i to the power k
 --   AtMost b u       no exponent of u is above b
 --   degree u         the total degree of u

@@ -2,10 +2,11 @@
 --
 --   Check            a number of the table with its condition, and the test of that condition
 --   refusal checks   the number of the first check whose condition holds, 0 where none does
---   Refuses checks m m is given: its condition holds, and none earlier in the order does
+--   Refuses checks m   m is given: its condition holds, and none earlier in the order does
 --   Accepts checks   no condition holds
 --   NotOneToSix n, NoMultiple n bytes, TooManyRows n bytes, EntryAbove50 bytes   the conditions of 1 to 4, each with its test, `tests-..`
 --   check            a check from its number and the test of its condition
+--   no-multiple, quotient   lengths with and without remainder
 --   tableChecks n bytes   the checks 1 to 4, which every operation on a table begins with
 --   TableAccepted n bytes   what is known of a table that passes them
 --
@@ -63,7 +64,7 @@ EntryAbove50 bytes = (e : ℕ) × List·Memᴰ e bytes × (50 < e)
 pub tests-notOneToSix : (n : ℕ) → Tests (not (ltb 0 n && leb n 6)) (NotOneToSix n)
 tests-notOneToSix n = tests-not (tests-and (tests-lt 0 n) (λ p. tests-le n 6))
 
--- with a remainder it is none, and without one it is
+-- a length with a remainder is no multiple; one without is the quotient times n
 pub no-multiple : (n : ℕ) (bytes : List ℕ) → (length bytes % n ≡ 0 → ⊥) → NoMultiple n bytes
 no-multiple n bytes f k e = f (ap (λ (x : ℕ). x % n) e ∙ mul-mod-left k n)
 

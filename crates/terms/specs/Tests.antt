@@ -4,7 +4,7 @@
 --   pick b x y       x where b is true, y where it is false
 --   b implies c      the Boolean of 'if b then c'
 --   each n f         f holds of each number 1 to n
---   all f l, any f l f holds of each, of some element of l
+--   all f l, any f l   f holds of each element of l, of some element
 --   keep f l         the elements of l of which f holds, in their order
 --
 -- A rule is a type in the paper's words. Its test computes, and one law `tests-..` says that both agree: readers read

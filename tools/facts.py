@@ -12,7 +12,6 @@ FIRST = re.compile(r'/proofs/([^\s:]+)/Proof\.antt:\d+:\d+: error: `([^`]+)`')
 OTHER = re.compile(r'/(src|specs|proofs)/([^\s:]+):\d+:\d+: error: ([^\n]{0,80})')
 WORDS = (
     (r'returns(-\d+)?$', 'its ensures'),
-    (r'(.+)-requires(-\d+)?$', r'what \1 requires'),
     (r'loop-again', "the loop's invariant after a turn"),
     (r'loop-holds', "the loop's invariant at its start"),
     (r'loop-less', 'that the loop ends'),
@@ -25,10 +24,10 @@ WORDS = (
 
 def in_words(function, fact):
     name = fact.removeprefix(f'{function}-')
-    for pattern, text in WORDS:
-        if re.match(pattern, name):
-            return re.sub(pattern, text, name) if '\\1' in text else text
-    return name
+    asked = re.match(r'(.+)-requires(-\d+)?$', name)
+    if asked:
+        return f'what `{asked.group(1).replace("-", "_")}` requires'
+    return next((text for pattern, text in WORDS if re.match(pattern, name)), name)
 
 
 def refused_at(log):

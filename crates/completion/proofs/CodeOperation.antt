@@ -68,7 +68,8 @@ module _ {n : ℕ} {table : List ℕ} {count : ℕ} {out : List ℕ} {room : ℕ
       ap (λ (b : List ℕ). take (count * n) b) e
       ∙ ap (λ (x : ℕ). take x (paste d 0 table (count * n))) (sym (zero-plus (count * n)))
       ∙ take-paste d 0 table (count * n) (omega arith) (omega (arith, h .whole)) in
-      let same : firstRows (suc (n - 1)) count work ≡ rows n table = ap (λ (x : ℕ). firstRows x count work) whole ∙ same-rows n count work table (omega arith) (omega (arith, h .whole)) front ∙ sym table-rows in
+      let same : firstRows (suc (n - 1)) count work ≡ rows n table =
+      ap (λ (x : ℕ). firstRows x count work) whole ∙ same-rows n count work table (omega arith) (omega (arith, h .whole)) front ∙ sym table-rows in
       let done : slices (suc (n - 1)) (firstRows (suc (n - 1)) count work) ≡ completedOf n table =
       ap (λ (G : Table). slices (suc (n - 1)) G) same ∙ ap (λ (x : ℕ). slices x (rows n table)) whole ∙ slices-completed n (rows n table) (rows-size n table) in
       let none : n - suc (n - 1) ≡ 0 = omega (arith, whole) in

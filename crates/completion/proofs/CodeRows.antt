@@ -62,7 +62,8 @@ same-rows n k b d h g e =
 pub read-back : (n k from : ℕ) (b X : List ℕ) (G : Table) → OfSize n G → length G ≡ k → length X ≡ from → take (from + k * n) b ≡ X ++ flat G →
     part n k from b ≡ G
 read-back n k from b X G z l x e =
-    let s : b ≡ X ++ (flat G ++ drop (from + k * n) b) = sym (take-append-drop (from + k * n) b) ∙ ap (λ (l : List ℕ). l ++ drop (from + k * n) b) e ∙ append-assoc X (flat G) (drop (from + k * n) b) in
+    let s : b ≡ X ++ (flat G ++ drop (from + k * n) b) =
+    sym (take-append-drop (from + k * n) b) ∙ ap (λ (l : List ℕ). l ++ drop (from + k * n) b) e ∙ append-assoc X (flat G) (drop (from + k * n) b) in
     let d : drop from b ≡ flat G ++ drop (from + k * n) b = ap (λ (l : List ℕ). drop from l) s ∙ drop-at X (flat G ++ drop (from + k * n) b) from x in
     ap (λ (l : List ℕ). firstRows n k l) d
     ∙ ap (λ (j : ℕ). firstRows n j (flat G ++ drop (from + k * n) b)) (sym l)
@@ -99,7 +100,8 @@ module _ (out : List ℕ) (n k first e : ℕ) where
       let s : (first + i) * n ≡ first * n + i * n = add-mul first i n in
       let d : i * n ≤ length (drop (first * n) out) = rw length-drop (omega arith) in
       let G : Table = part n i (first * n) out in
-      let l : length (flat (map (λ u. set u k e) G)) ≡ length (map (λ u. set u k e) G) * n = length-flat n (map (λ u. set u k e) G) (set-size n k e G (firstRows-size n i (drop (first * n) out) d)) in
+      let l : length (flat (map (λ u. set u k e) G)) ≡ length (map (λ u. set u k e) G) * n =
+      length-flat n (map (λ u. set u k e) G) (set-size n k e G (firstRows-size n i (drop (first * n) out) d)) in
       let m : length (map (λ u. set u k e) G) ≡ i = length-map G (λ u. set u k e) ∙ length-firstRows n i (drop (first * n) out) in
       let t : length (take (first * n) out) ≡ first * n = length-take-le (first * n) out (omega arith) in
       length-append (take (first * n) out) (flat (map (λ u. set u k e) G)) ∙ rw (t, l, m) (sym s)
@@ -127,7 +129,8 @@ module _ (out : List ℕ) (n k first e : ℕ) where
       let next : (first + (i + 1)) * n ≡ (first + i) * n + n = ap (λ (x : ℕ). x * n) (omega arith) ∙ (add-mul (first + i) 1 n ∙ omega arith) in
       let lx : length X ≡ (first + i) * n = columned-front i (omega arith) in
       let lr : length r ≡ n = length-take-le n (drop ((first + i) * n) out) (rw length-drop (omega arith)) in
-      let cut : drop ((first + i) * n) out ≡ r ++ rest = sym (take-append-drop n (drop ((first + i) * n) out)) ∙ ap (λ (l : List ℕ). r ++ l) (drop-drop n ((first + i) * n) out) in
+      let cut : drop ((first + i) * n) out ≡ r ++ rest =
+      sym (take-append-drop n (drop ((first + i) * n) out)) ∙ ap (λ (l : List ℕ). r ++ l) (drop-drop n ((first + i) * n) out) in
       let left : set b ((first + i) * n + k) e ≡ X ++ (set r k e ++ rest) =
       ap (λ (l : List ℕ). set l ((first + i) * n + k) e) (q ∙ ap (λ (l : List ℕ). X ++ l) cut)
       ∙ ap (λ (x : ℕ). set (X ++ (r ++ rest)) (x + k) e) (sym lx)
@@ -146,7 +149,8 @@ module _ (out : List ℕ) (n k first e : ℕ) where
   columned-take b i count p h q =
       let c : b ≡ columned out n k first e count = q ∙ ap (λ (x : ℕ). columned out n k first e x) p in
       ap (λ (l : List ℕ). take ((first + count) * n) l) c
-      ∙ take-at (take (first * n) out ++ flat (map (λ u. set u k e) (part n count (first * n) out))) (drop ((first + count) * n) out) ((first + count) * n) (columned-front count h)
+      ∙ take-at (take (first * n) out ++ flat (map (λ u. set u k e) (part n count (first * n) out))) (drop ((first + count) * n) out)
+      ((first + count) * n) (columned-front count h)
 
 -- ---- a block once more
 
@@ -158,8 +162,10 @@ again-rows n k first count end e out new after h g p q =
     let s : (end + count) * n ≡ end * n + count * n = add-mul end count n in
     let t : first * n + count * n ≤ end * n = rows-before first count end n g in
     let d : count * n ≤ length (drop (first * n) out) = rw length-drop (omega arith) in
-    let f : take (end * n) new ≡ take (end * n) out = ap (λ (l : List ℕ). take (end * n) l) p ∙ pasted-front out (drop (first * n) out) (end * n) (count * n) (omega arith) in
-    let r : part n count (end * n) new ≡ part n count (first * n) out = ap (λ (l : List ℕ). part n count (end * n) l) p ∙ pasted-rows n count out (drop (first * n) out) (end * n) (omega arith) d in
+    let f : take (end * n) new ≡ take (end * n) out =
+    ap (λ (l : List ℕ). take (end * n) l) p ∙ pasted-front out (drop (first * n) out) (end * n) (count * n) (omega arith) in
+    let r : part n count (end * n) new ≡ part n count (first * n) out =
+    ap (λ (l : List ℕ). part n count (end * n) l) p ∙ pasted-rows n count out (drop (first * n) out) (end * n) (omega arith) d in
     q ∙ rw (f, r)
 
 -- ---- a tail of what was read
@@ -174,7 +180,9 @@ drop-take (suc j) r (x ∷ l) = let e : suc j + r ≡ suc (j + r) = omega arith 
 pub length-copies : (k b j : ℕ) (S : Table) → length (copies k b j S) ≡ j * length S
 unfolding copies
 length-copies k b zero S = omega arith
-length-copies k b (suc j) S = length-append (copies k b j S) (map (λ u. set u k (b + j)) S) ∙ omega (arith, length-copies k b j S, length-map S (λ u. set u k (b + j)))
+length-copies k b (suc j) S =
+    length-append (copies k b j S) (map (λ u. set u k (b + j)) S)
+    ∙ omega (arith, length-copies k b j S, length-map S (λ u. set u k (b + j)))
 
 pub copies-repeated : (p : Monomial) (last b j : ℕ) (B : Table) → copies (length p) b j (after p (behind last B)) ≡ after p (repeated b j B)
 unfolding copies repeated after
@@ -217,14 +225,16 @@ compact-more n rest first i to out b c d h g f e p =
     let whole : n - rest + rest ≡ n = omega arith in
     let s : rest ≤ length (drop (x + (n - rest)) out) = rw length-drop (omega arith) in
     let piece : take rest (drop (x + (n - rest)) out) ≡ drop (n - rest) u =
-    ap (λ (l : List ℕ). take rest l) (sym (drop-drop (n - rest) x out)) ∙ sym (drop-take (n - rest) rest (drop x out)) ∙ ap (λ (y : ℕ). drop (n - rest) (take y (drop x out))) whole in
+    ap (λ (l : List ℕ). take rest l) (sym (drop-drop (n - rest) x out)) ∙ sym (drop-take (n - rest) rest (drop x out))
+    ∙ ap (λ (y : ℕ). drop (n - rest) (take y (drop x out))) whole in
     let rows : map (λ u. drop (n - rest) u) (part n (i + 1) (first * n) out) ≡ map (λ u. drop (n - rest) u) G ++ (drop (n - rest) u ∷ []) =
     ap (λ (H : Table). map (λ u. drop (n - rest) u) H) (part-snoc n i (first * n) out ∙ ap (λ (y : ℕ). G ++ (take n (drop y out) ∷ [])) q)
     ∙ map-append (λ u. drop (n - rest) u) G (u ∷ []) in
     ap (λ (y : ℕ). take y c) next
     ∙ ap (λ (l : List ℕ). take (to + i * rest + rest) l) p
     ∙ take-paste b (to + i * rest) (drop (x + (n - rest)) out) rest (omega arith) s
-    ∙ rw (e, piece, rows, flat-snoc (map (λ u. drop (n - rest) u) G) (drop (n - rest) u)) (append-assoc (take to d) (flat (map (λ u. drop (n - rest) u) G)) (drop (n - rest) u))
+    ∙ rw (e, piece, rows, flat-snoc (map (λ u. drop (n - rest) u) G) (drop (n - rest) u))
+    (append-assoc (take to d) (flat (map (λ u. drop (n - rest) u) G)) (drop (n - rest) u))
 
 pub tail-take : (r : ℕ) (l : List ℕ) → tail (take (suc r) l) ≡ take r (drop 1 l)
 tail-take r [] = sym (lib.Seq.take-nil r)
@@ -240,12 +250,15 @@ pub repeat-more : (n k first count stop b e end : ℕ) (out new d : List ℕ) �
 unfolding copies
 repeat-more n k first count stop b e end out new d l h g f j p q =
     let S : Table = part n count (first * n) d in
-    let same : take (stop * n) out ≡ take (stop * n) d = front-of (stop * n) (end * n) out d (flat (copies k b (e - b) S)) (rows-fewer stop end n g) (length-take-le (stop * n) d j) p in
+    let same : take (stop * n) out ≡ take (stop * n) d =
+    front-of (stop * n) (end * n) out d (flat (copies k b (e - b) S)) (rows-fewer stop end n g) (length-take-le (stop * n) d j) p in
     let m : stop * n ≤ end * n = rows-fewer stop end n g in
     let t : part n count (first * n) out ≡ S = same-part n count (first * n) (stop * n) out d (rows-before first count stop n h) (omega arith) j same in
     let s : e + 1 - b ≡ suc (e - b) = omega arith in
     let i : b + (e - b) ≡ e = omega arith in
-    q ∙ rw (p, t, s, i, flat-append (copies k b (e - b) S) (map (λ u. set u k e) S)) (append-assoc (take (stop * n) d) (flat (copies k b (e - b) S)) (flat (map (λ u. set u k e) S)))
+    q
+    ∙ rw (p, t, s, i, flat-append (copies k b (e - b) S) (map (λ u. set u k e) S))
+    (append-assoc (take (stop * n) d) (flat (copies k b (e - b) S)) (flat (map (λ u. set u k e) S)))
 
 pub copies-next : (k b e count : ℕ) (S : Table) → b ≤ e → length S ≡ count → length (copies k b (e + 1 - b) S) ≡ length (copies k b (e - b) S) + count
 unfolding copies

@@ -173,7 +173,8 @@ found-divides n table query answer p e r =
     let G : Table = rows n table in
     let found = find-finds n table query answer p z in (
       λ same. subst (λ (o : Option ℕ). Answers Multiplicative G query o) same found,
-      λ d. answers-unique (janet-disjoint (rows-size n table) (ascending-distinct G (find-ready n table query z .ascends))) query (findRow answer) (some r) found d,
+      λ d. answers-unique (janet-disjoint (rows-size n table) (ascending-distinct G (find-ready n table query z .ascends))) query (findRow answer)
+          (some r) found d,
     )
 
 module _ (n : ℕ) (table buffer : List ℕ) (k : ℕ) (after : List ℕ) (p : CompletePromise n table buffer (Rows k) after) where
@@ -227,7 +228,8 @@ module _ (n : ℕ) (table buffer : List ℕ) (k : ℕ) (after : List ℕ) (p : C
       let z : refusal (countChecks n (flat H) s) ≡ 0 = accepts-refusal (countChecks n (flat H) s) (counted s l) in
       let value : countAt n H s ≡ countValue answer = sym (ap countValue (c .value z) ∙ ap (λ (G : Table). countAt n G s) (sym same-rows)) in (
         c .number ∙ z,
-        subst (λ (k : ℕ). CountsOutside n (rows n table) s k) value (outside-ideal (completion-ideal n (rows n table) (rows-size n table) is) (count-outside n H s)),
+        subst (λ (k : ℕ). CountsOutside n (rows n table) s k) value
+            (outside-ideal (completion-ideal n (rows n table) (rows-size n table) is) (count-outside n H s)),
       )
 
   -- they pass every check of find for a query of n bytes, and a row is found exactly for the monomials of the ideal

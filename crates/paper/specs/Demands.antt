@@ -111,7 +111,8 @@ pub record DemandThree : Type 1 where
       → (findRow answer ≡ scan (rows n table) query) × (findSteps answer ≤ degree query + n)
   -- on the completed rows find answers, and gives a row exactly where some given row divides the query
   pub completed-find : (n : ℕ) (table buffer : List ℕ) (completed : CompleteAnswer) (after : List ℕ) → CompletePromise n table buffer completed after
-      → completeNumber completed ≡ 0 → (query : List ℕ) → length query ≡ n → (answer : FindAnswer) → FindPromise n (take (completeRows completed * n) after) query answer
+      → completeNumber completed ≡ 0 → (query : List ℕ) → length query ≡ n → (answer : FindAnswer)
+      → FindPromise n (take (completeRows completed * n) after) query answer
       → (findNumber answer ≡ 0) × (((r : ℕ) × (findRow answer ≡ some r)) ↔ Inside (rows n table) query)
   pub count : (n : ℕ) (table buffer : List ℕ) (completed : CompleteAnswer) (after : List ℕ) → CompletePromise n table buffer completed after
       → completeNumber completed ≡ 0 → (s : ℕ) → s ≤ 300 → (answer : CountAnswer) → CountPromise n (take (completeRows completed * n) after) s answer

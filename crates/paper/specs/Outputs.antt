@@ -61,7 +61,9 @@ pub record TableText (b : List ℕ) (j : ℕ) (H : Table) : Type 0 where
   pub none : 4096 < length H → partText b j ≡ noRoomLine j
 
 pub record ListingDemand : Type 1 where
-  pub part : (bundle : List ℕ) (j : ℕ) (before : List ℕ) (size : ℕ) (after : List ℕ) → PartPromise bundle j before size after → take size after ≡ partText bundle j
-  pub table : (bundle : List ℕ) (j : ℕ) → Accepts (openChecks bundle j) → (H : Table) → CompletedTable (variablesOf bundle) (tableOf bundle j) H → TableText bundle j H
+  pub part : (bundle : List ℕ) (j : ℕ) (before : List ℕ) (size : ℕ) (after : List ℕ) → PartPromise bundle j before size after
+      → take size after ≡ partText bundle j
+  pub table : (bundle : List ℕ) (j : ℕ) → Accepts (openChecks bundle j) → (H : Table) → CompletedTable (variablesOf bundle) (tableOf bundle j) H
+      → TableText bundle j H
   pub refused : (bundle : List ℕ) (m : ℕ) → Refuses (bundleChecks bundle) m → bundleText bundle ≡ refusalLine m
   pub whole : (bundle : List ℕ) → bundleText bundle ≡ partsText bundle 0 16

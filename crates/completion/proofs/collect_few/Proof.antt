@@ -37,7 +37,8 @@ level-requires c κs =
     let k : length (replicate {A = ℕ} 500 0) ≡ 500 = length-replicate {A = ℕ} 500 0 in
     let m : a .rows * 21 ≤ 2100 = omega (arith, s .pre .1) in
     let f = links-fit p 500 (omega (arith, s .pre .1)) in
-    (collect-roomy p (c .before .before .before .before .copy-from .last .0) (omega (arith, c .before .before .before .before .copy-from .kept .0)), omega arith)
+    let copied = c .before .before .before .before .copy-from in
+    (collect-roomy p (copied .last .0) (omega (arith, copied .kept .0)), omega arith)
 
 same-length : tie.Need-same-length
 same-length c = search needs
@@ -47,7 +48,9 @@ returns c =
     let s = c .before .before .before .before .before .before .before .before .before .before .before .before .before in let a = s .args in let p = s .pre .0 in
     let l : length (replicate {A = ℕ} 2100 0) ≡ 2100 = length-replicate {A = ℕ} 2100 0 in
     let f = copied-fits p 2100 (omega (arith, s .pre .1)) in
-    collected p (replicate {A = ℕ} 6 0) (replicate {A = ℕ} 2100 0) (c .before .before .before .before .before .before .before .before .before .copy-from .last .0) _ _ (c .before .before .before .before .level .result) (omega arith) (c .before .before .before .before .before .before .before .before .before .copy-from .kept .0) (c .before .before .before .before .before .before .before .before .before .copy-from .ensures) (c .before .before .before .before .level .ensures)
+    let k = c .before .before .before .before .before .before .before .before .before .copy-from in
+    let v = c .before .before .before .before .level in
+    collected p (replicate {A = ℕ} 6 0) (replicate {A = ℕ} 2100 0) (k .last .0) _ _ (v .result) (omega arith) (k .kept .0) (k .ensures) (v .ensures)
 
 pub collect-few-spec : {M : Type 1} → statement M
 collect-few-spec =

@@ -12,7 +12,9 @@ use Rattle.completion.proofs.grows.Statement.{statement}
 use Rattle.completion.proofs.grows.Tie as tie
 
 abbrev Inv-loop : tie.InvT-loop
-Inv-loop bytes from count more m place₀ left₀ place left = (place + left * m ≤ length bytes) × (fresh (part m count from bytes) (part m more (from + count * m) bytes) ≡ fresh (part m count from bytes) (part m left place bytes))
+Inv-loop bytes from count more m place₀ left₀ place left =
+    (place + left * m ≤ length bytes) ×
+    (fresh (part m count from bytes) (part m more (from + count * m) bytes) ≡ fresh (part m count from bytes) (part m left place bytes))
 
 abbrev μ-loop : tie.MeasureT-loop
 μ-loop bytes from count more m place₀ left₀ place left = left
@@ -35,7 +37,8 @@ inside-ideal-requires c κs = let a = c .before .before .before .args in
 returns : tie.Need-returns Inv-loop μ-loop
 returns c = let a = c .before .before .before .before .before .args in
     let l = c .before .before .before .loop in
-    sym (l .inv .1 ∙ grows-stop (part (a .m) (a .count) (a .from) (a .bytes .now)) (a .m) (l .left) (l .place) (a .bytes .now) (omega arith) (sym (c .before .inside-ideal .ensures) ∙ not-true _ (c .if1 .taken)))
+    let outside = sym (c .before .inside-ideal .ensures) ∙ not-true _ (c .if1 .taken) in
+    sym (l .inv .1 ∙ grows-stop (part (a .m) (a .count) (a .from) (a .bytes .now)) (a .m) (l .left) (l .place) (a .bytes .now) (omega arith) outside)
 
 add-place-2 : tie.Need-add-place-2 Inv-loop μ-loop
 add-place-2 c = let a = c .before .before .before .before .before .args in
@@ -53,7 +56,8 @@ loop-again : tie.Need-loop-again Inv-loop μ-loop
 loop-again c = let a = c .before .before .before .before .before .args in
     let l = c .before .before .before .loop in
     let s = times-pred (l .left) (a .m) (omega arith) in
-    (omega arith, l .inv .1 ∙ grows-on (part (a .m) (a .count) (a .from) (a .bytes .now)) (a .m) (l .left) (l .place) (a .bytes .now) (omega arith) (sym (c .before .inside-ideal .ensures) ∙ not-false _ (c .if1 .left)))
+    let inside = sym (c .before .inside-ideal .ensures) ∙ not-false _ (c .if1 .left) in
+    (omega arith, l .inv .1 ∙ grows-on (part (a .m) (a .count) (a .from) (a .bytes .now)) (a .m) (l .left) (l .place) (a .bytes .now) (omega arith) inside)
 
 returns-2 : tie.Need-returns-2 Inv-loop μ-loop
 returns-2 c = let a = c .before .before .before .args in

@@ -11,7 +11,9 @@ use Rattle.completion.proofs.inside_ideal.Statement.{statement}
 use Rattle.completion.proofs.inside_ideal.Tie as tie
 
 abbrev Inv-loop : tie.InvT-loop
-Inv-loop bytes from count m q place₀ left₀ place left = (place + left * m ≤ length bytes) × (insideTest (part m count from bytes) (take m (drop q bytes)) ≡ insideTest (part m left place bytes) (take m (drop q bytes)))
+Inv-loop bytes from count m q place₀ left₀ place left =
+    (place + left * m ≤ length bytes) ×
+    (insideTest (part m count from bytes) (take m (drop q bytes)) ≡ insideTest (part m left place bytes) (take m (drop q bytes)))
 
 abbrev μ-loop : tie.MeasureT-loop
 μ-loop bytes from count m q place₀ left₀ place left = left
@@ -28,7 +30,8 @@ divides-at-requires c κs = let a = c .before .before .before .args in
 returns : tie.Need-returns Inv-loop μ-loop
 returns c = let a = c .before .before .before .before .before .args in
     let l = c .before .before .before .loop in
-    sym (l .inv .1 ∙ inside-stop (a .m) (l .left) (l .place) (a .bytes .now) (take (a .m) (drop (a .q) (a .bytes .now))) (omega arith) (sym (c .before .divides-at .ensures) ∙ c .if1 .taken))
+    let found = sym (c .before .divides-at .ensures) ∙ c .if1 .taken in
+    sym (l .inv .1 ∙ inside-stop (a .m) (l .left) (l .place) (a .bytes .now) (take (a .m) (drop (a .q) (a .bytes .now))) (omega arith) found)
 
 add-place : tie.Need-add-place Inv-loop μ-loop
 add-place c = search needs
@@ -43,7 +46,8 @@ loop-again : tie.Need-loop-again Inv-loop μ-loop
 loop-again c = let a = c .before .before .before .before .before .args in
     let l = c .before .before .before .loop in
     let s = times-pred (l .left) (a .m) (omega arith) in
-    (omega arith, l .inv .1 ∙ inside-on (a .m) (l .left) (l .place) (a .bytes .now) (take (a .m) (drop (a .q) (a .bytes .now))) (omega arith) (sym (c .before .divides-at .ensures) ∙ c .if1 .left))
+    let passed = sym (c .before .divides-at .ensures) ∙ c .if1 .left in
+    (omega arith, l .inv .1 ∙ inside-on (a .m) (l .left) (l .place) (a .bytes .now) (take (a .m) (drop (a .q) (a .bytes .now))) (omega arith) passed)
 
 returns-2 : tie.Need-returns-2 Inv-loop μ-loop
 returns-2 c = let a = c .before .before .before .args in

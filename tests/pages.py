@@ -1,5 +1,7 @@
 """What the pages name must be there: files, lines, must-fail edits, definitions, laws and functions.
 
+Where a line of a table names a must-fail edit in its last cell but one, the last says where that edit is refused, as the edit's own file does.
+
 A word in backquotes with a slash is a file, or CRATE/EDIT. Words in parentheses behind a file stand in that file. One that ends in a colon and a
 number is a line, and that line holds the word in backquotes before it. Any other single word occurs in the repository's own files.
 Commands, formulas and blocks of code are passed over, and so are names with a part in capitals, which stand for any.
@@ -8,10 +10,13 @@ import glob
 import os
 import re
 
+import edits
+
 WORD = re.compile(r"[\w'?!-]+")
 QUOTED = re.compile(r'`([^`]+)`')
 PATH = re.compile(r'[\w.+*-]+(?:/[\w.+*-]+)+/?')
 LINE = re.compile(r'([\w./+-]+):(\d+)')
+EDIT_ROW = re.compile(r'(?P<before>\|.*\| `(?P<edit>\w+/\w+)` \| )(?P<words>.*) \|')
 FOLDERS = ('crates', 'rust', 'tests', 'tools', 'include', 'examples', '.ci')
 SUFFIXES = ('.rt', '.antt', '.rs', '.py', '.h', '.c', '.sh', '.edit', '.toml', '')
 
@@ -78,9 +83,17 @@ def missing(root, line, known):
             yield from (name for name in QUOTED.findall(inner) if WORD.fullmatch(name) and name not in words(file))
 
 
+def misplaced(line, places):
+    """An edit that a line says to be refused elsewhere than its own file does."""
+    row = EDIT_ROW.fullmatch(line)
+    if row and places.get(row['edit']) and row['words'] != edits.in_words(places[row['edit']]):
+        yield row['edit']
+
+
 def faults(root):
     """Each fault of each page, in a line."""
     known = known_words(root)
+    places = {name: edits.named(text) for name, text in edits.edits(root)}
     for page in ['README.md', *sorted(os.path.join('docs', name) for name in os.listdir(os.path.join(root, 'docs')) if name.endswith('.md'))]:
         if not os.path.isfile(os.path.join(root, page)):
             continue
@@ -88,3 +101,4 @@ def faults(root):
             for number, line in enumerate(text.read().splitlines(), 1):
                 if not line.startswith('    '):
                     yield from (f'{page}:{number}: {name} is not there' for name in missing(root, line, known))
+                    yield from (f'{page}:{number}: {name} is refused elsewhere (tools/facts.py)' for name in misplaced(line, places))

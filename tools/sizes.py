@@ -1,8 +1,12 @@
 """Prints the size of each crate, in lines without blank lines and comments: code, definitions, laws, proofs of functions, edits.
 
-python3 tools/sizes.py, at the root of the repository.
+python3 tools/sizes.py [LOG], at the root of the repository. With what the gate printed (./test >LOG), the seconds of the
+check from nothing stand in a last column.
 """
 import os
+import sys
+
+import times
 
 ROOT = os.path.join(os.path.dirname(os.path.abspath(__file__)), '..', 'crates')
 
@@ -41,8 +45,15 @@ def sizes(crate):
 def main():
     rows = {crate: sizes(crate) for crate in sorted(os.listdir(ROOT))}
     rows['all'] = {key: sum(row[key] for row in rows.values()) for key in ('code', 'definitions', 'laws', 'proofs', 'edits')}
-    print('| crate | code | definitions | laws | proofs of functions | must-fail edits |')
-    print('|---|---|---|---|---|---|')
+    heads = ['crate', 'code', 'definitions', 'laws', 'proofs of functions', 'must-fail edits']
+    if len(sys.argv) > 1:
+        seconds = times.proved(times.read(sys.argv[1]))
+        heads.append('check')
+        seconds['all'] = sum(seconds.values())
+        for crate, row in rows.items():
+            row['check'] = f'{seconds[crate]} s' if crate in seconds else '-'
+    print('| ' + ' | '.join(heads) + ' |')
+    print('|' + '---|' * len(heads))
     for crate, row in rows.items():
         print('| ' + ' | '.join([crate] + [str(value) for value in row.values()]) + ' |')
 

@@ -3,7 +3,6 @@
 --   choose-over, choose-self   a bottom above the top gives 0, and the top itself 1
 --   choose-one             a bottom of 1 gives the top
 --   choose-up, choose-monotone   a larger top gives no less
---   choose-positive        a bottom within the top gives at least 1
 --   hockey-stick           the sum of C(j + m, m) for j up to t is C(t + m + 1, m + 1)
 --   choose-absorb          (k + 1) C(n + 1, k + 1) is (n + 1) C(n, k)
 --   choose-largest         C(306, 6) is 1,085,371,516,236
@@ -53,9 +52,6 @@ choose-monotone (suc a) zero k h = absurd (not-suc-le-zero h)
 choose-monotone (suc a) (suc b) zero h = omega (arith, choose-none (suc a), choose-none (suc b))
 choose-monotone (suc a) (suc b) (suc k) h =
     omega (arith, choose-pascal a k, choose-pascal b k, choose-monotone a b k (le-of-suc-le-suc h), choose-monotone a b (suc k) (le-of-suc-le-suc h))
-
-pub choose-positive : (n k : ℕ) → k ≤ n → 0 < choose n k
-choose-positive n k h = omega (arith, choose-self k, choose-monotone k n k h)
 
 -- the sum of C(j + m, m) for j from 0 to t
 unfoldable pub stick : ℕ → ℕ → ℕ

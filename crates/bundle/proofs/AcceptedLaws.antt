@@ -16,16 +16,17 @@ use native.Mathlib.Omega.{arith}
 use lib.Dec.{ltb}
 use lib.ListN.{length, take, drop, take-append-drop, drop-of-length-le, length-drop}
 use lib.Seq.{drop-drop, length-take-le}
-use Rattle.terms.specs.Tests.{any, stable, tests-same, tests-as, tests-le}
+use Rattle.checks.specs.Tests.{any, SomeBelow}
+use Rattle.checks.proofs.TestLaws.{stable, tests-same, tests-as, tests-le}
 use Rattle.terms.specs.Rows.{flat}
-use Rattle.terms.specs.Refusals.{refusal, Accepts, EntryAbove50, tests-entryAbove50, tableChecks}
+use Rattle.checks.specs.Refusals.{refusal, Accepts}
+use Rattle.terms.specs.TableChecks.{EntryAbove50, tests-entryAbove50, tableChecks}
 use Rattle.terms.proofs.RowsLaws.{length-rows, flat-rows}
-use Rattle.terms.proofs.RefusalLaws.{accepted, accepts-refusal, accepts-head, accepts-left, accepts-right}
-use Rattle.terms.proofs.RefusalLaws.{refusal-none, refusal-passes, passes-first, accepts-table}
-use Rattle.bundle.specs.Some.{SomeBelow}
+use Rattle.checks.proofs.RefusalLaws.{accepted, accepts-refusal, accepts-head, accepts-left, accepts-right, refusal-none, refusal-passes, passes-first}
+use Rattle.terms.proofs.TableLaws.{accepts-table}
 use Rattle.bundle.specs.Format.{variablesOf, tableCount, headerLength, rowCount, offsetOf, bodyLength, placeOf, bodyOf, tableOf}
-use Rattle.bundle.specs.Checks.{LargeEntry, largeEntryTest, tests-largeEntry}
-use Rattle.bundle.specs.Checks.{frameChecks, tableChecksOf, tablesChecks, remainChecks, layoutChecks, entryChecks, bundleChecks}
+use Rattle.bundle.specs.Checks.{LargeEntry, largeEntryTest, tests-largeEntry, frameChecks, tableChecksOf, tablesChecks, remainChecks, layoutChecks}
+use Rattle.bundle.specs.Checks.{entryChecks, bundleChecks}
 use Rattle.bundle.proofs.CheckLaws.{Framed, framed-accepts, has-frame, frame-passes, TableLaid, tables-laid, table-passes}
 
 -- ---- the layout
@@ -150,8 +151,8 @@ tables-enough b (suc m) j f =
 laid-enough : (b : List ℕ) → Laid b → refusal (layoutChecks b) ≡ 0
 laid-enough b l =
     let f = l .frame in
-    let is = has-frame b (f .long) (f .short) (f .someTables) (f .fewTables) (f .header) in
-    let frame : 0 ≡ refusal (frameChecks b) = frame-passes b is (f .someVariables) (f .fewVariables) in
+    let is = has-frame b (f .long) (f .short) (f .someTables) (f .sixteen) (f .header) in
+    let frame : 0 ≡ refusal (frameChecks b) = frame-passes b is (f .someVariables) (f .six) in
     let tables : refusal (tablesChecks b 0 (tableCount b)) ≡ 0 = tables-enough b (tableCount b) 0 (λ i g h. l .tables i (omega arith)) in
     let none : placeOf b (tableCount b) < length b → ⊥ = λ h. omega (arith, l .ends) in
     let remain : 0 ≡ refusal (remainChecks b) = sym (refusal-passes _ _ none ∙ refusal-none) in
@@ -188,7 +189,7 @@ table-passes-checks b a j h =
     let l = a .layout in
     accepts-refusal _ (accepts-table (variablesOf b) (bodyOf b j) (record {
       some = l .frame .someVariables;
-      few = l .frame .fewVariables;
+      six = l .frame .six;
       whole = length-body b l j h ∙ ap (λ (m : ℕ). m * variablesOf b) (sym (length-table b l j h));
       limited = omega (arith, length-table b l j h, l .tables j h .limited);
       small = λ e m. a .small j e h m;

@@ -14,8 +14,8 @@ use native.Mathlib.Omega.{arith}
 use lib.Dec.{lit<}
 use lib.ListN.{length, getD, take, drop, take-append-drop, drop-of-length-le}
 use lib.Seq.{drop-drop, drop-cons}
-use Rattle.bundle.specs.Format.{byteAt, number16, variablesOf, tableCount, rowCount, offsetOf, placeOf, tableOf, tablesFrom, tablesOf}
-use Rattle.bundle.specs.Format.{Bytes, low, high, entriesOf, bodiesOf, bundleOf}
+use Rattle.bundle.specs.Format.{byteAt, number16, variablesOf, tableCount, rowCount, offsetOf, placeOf, tableOf, tablesFrom, tablesOf, Bytes, low, high}
+use Rattle.bundle.specs.Format.{entriesOf, bodiesOf, bundleOf}
 use Rattle.bundle.proofs.AcceptedLaws.{Laid, Accepted, from-place, length-table, flat-table}
 
 -- ---- the two bytes of a number

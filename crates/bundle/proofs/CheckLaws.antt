@@ -15,10 +15,11 @@ use native.Mathlib.Numerals.{add-one}
 use native.Mathlib.Decide.{ℕ-discrete}
 use native.Mathlib.Omega.{arith}
 use lib.ListN.{length}
-use Rattle.terms.specs.Tests.{stable, tests-le, tests-lt, tests-eq, tests-and}
-use Rattle.terms.specs.Refusals.{Check, refusal, Accepts, NotOneToSix}
-use Rattle.terms.proofs.RefusalLaws.{refusal-none, refusal-holds, refusal-passes, refusal-append, refusal-first, accepted}
-use Rattle.terms.proofs.RefusalLaws.{accepts-head, accepts-tail, accepts-left, accepts-right}
+use Rattle.checks.proofs.TestLaws.{stable, tests-le, tests-lt, tests-eq, tests-and}
+use Rattle.checks.specs.Refusals.{Check, refusal, Accepts}
+use Rattle.terms.specs.TableChecks.{NotOneToSix}
+use Rattle.checks.proofs.RefusalLaws.{refusal-none, refusal-holds, refusal-passes, refusal-append, refusal-first, accepted, accepts-head, accepts-tail}
+use Rattle.checks.proofs.RefusalLaws.{accepts-left, accepts-right}
 use Rattle.bundle.specs.Format.{number16, variablesOf, tableCount, headerLength, rowCount, offsetOf, bodyLength, placeOf}
 use Rattle.bundle.specs.Checks.{NoFrame, frameChecks, tableChecksOf, tablesChecks, remainChecks}
 
@@ -28,10 +29,10 @@ pub record Framed (b : List ℕ) : Type 0 where
   pub long : 2 ≤ length b
   pub short : length b ≤ 65535
   pub someTables : 0 < tableCount b
-  pub fewTables : tableCount b ≤ 16
+  pub sixteen : tableCount b ≤ 16
   pub header : headerLength b ≤ length b
   pub someVariables : 0 < variablesOf b
-  pub fewVariables : variablesOf b ≤ 6
+  pub six : variablesOf b ≤ 6
 
 framed-by : (b : List ℕ) → (NoFrame b → ⊥) → (NotOneToSix (variablesOf b) → ⊥) → Framed b
 framed-by b f g =
@@ -41,10 +42,10 @@ framed-by b f g =
       long = stable (tests-le 2 (length b)) (λ h. f (inl (omega (arith, h))));
       short = stable (tests-le (length b) 65535) (λ h. f (inr (inl (omega (arith, h)))));
       someTables = tables .0;
-      fewTables = tables .1;
+      sixteen = tables .1;
       header = stable (tests-le (headerLength b) (length b)) (λ h. f (inr (inr (inr (omega (arith, h))))));
       someVariables = variables .0;
-      fewVariables = variables .1;
+      six = variables .1;
     }
 
 pub framed-accepts : (b : List ℕ) → Accepts (frameChecks b) → Framed b

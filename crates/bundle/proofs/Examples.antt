@@ -4,7 +4,7 @@ use mathlib.Core.Path.{_≡_, refl}
 use mathlib.Core.List.{List, [], _∷_}
 use Prim.Native.Nat.{ℕ}
 use Rattle.terms.specs.Rows.{rows, firstRows, flat}
-use Rattle.terms.specs.Refusals.{refusal}
+use Rattle.checks.specs.Refusals.{refusal}
 use Rattle.terms.specs.ExampleTables.{tableD, bundleD}
 use Rattle.bundle.specs.Format.{rowCount, offsetOf, placeOf, tablesFrom, tablesOf, entriesOf, bodiesOf, bundleOf}
 use Rattle.bundle.specs.Checks.{tablesChecks, openChecks}

@@ -1,13 +1,13 @@
 -- Laws of the reader: what `locate` and `open_table` give is what they promise, and nothing else is.
 --
 --   entry-four, entries-pass   4, decided by the pass over what stands behind the header
---   opened-is, refused-is    the numbers of an opened table, and of a refused one
+--   numbers, zeros           the numbers of an opened table, and those beside a refusal
 --   opens-table              an accepted bundle that has a table j opens it
 --   locate-refused, locate-none, locate-opens   the three answers of `locate`
 --   open-accepted            an opened table is one of an accepted bundle
 --   locate-unique, open-unique   two results that the promise allows are equal
 --   found-within, body-shown, opens   what is located and cut out of the bundle is the table
-use mathlib.Core.Path.{_≡_, refl, sym, _∙_}
+use mathlib.Core.Path.{_≡_, sym, _∙_}
 use mathlib.Core.Bool.{Bool, true, false}
 use mathlib.Core.List.{List, []}
 use mathlib.Core.Logic.{by-cases}
@@ -17,14 +17,14 @@ use native.Mathlib.Omega.{arith}
 use lib.Dec.{ltb}
 use lib.ListN.{length, take, drop, length-drop}
 use lib.Seq.{take-all}
-use borrow.Author.Tests.{ne-eqb}
-use Rattle.terms.specs.Tests.{any, stable, true-tests, false-tests, tests-lt}
-use Rattle.terms.specs.Refusals.{refusal}
-use Rattle.terms.proofs.RefusalLaws.{refusal-none, refusal-holds, refusal-passes, refuses-first, passes-first}
-use Rattle.terms.proofs.RefusalLaws.{accepted, accepts-head, accepts-left, accepts-right}
-use Rattle.bundle.specs.Format.{variablesOf, tableCount, headerLength, rowCount, offsetOf, bodyLength, placeOf, bodyOf}
+use Rattle.checks.specs.Tests.{any}
+use Rattle.checks.proofs.TestLaws.{stable, true-tests, false-tests, tests-lt}
+use Rattle.checks.specs.Refusals.{refusal, answered}
+use Rattle.checks.proofs.RefusalLaws.{refusal-none, refusal-holds, refusal-passes, refuses-first, passes-first, accepted, accepts-head, accepts-left}
+use Rattle.checks.proofs.RefusalLaws.{accepts-right, answered-accepted, answered-refused}
+use Rattle.bundle.specs.Format.{variablesOf, tableCount, headerLength, rowCount, offsetOf, placeOf, bodyOf}
 use Rattle.bundle.specs.Checks.{numberChecks, openChecks, layoutChecks, entryChecks, bundleChecks, largeEntryTest, tests-largeEntry}
-use Rattle.bundle.specs.Operation.{opened, LocatePromise, FoundWithin, PartOf, OpenPromise, SameOpened}
+use Rattle.bundle.specs.Operation.{LocatePromise, FoundWithin, PartOf, OpenPromise, SameOpened}
 use Rattle.bundle.specs.declared.Located.{Located}
 use Rattle.bundle.specs.declared.OpenedTable.{OpenedTable}
 use denote.Ref.{RefT, now}
@@ -48,15 +48,6 @@ module _ (b : List ℕ) (start : ℕ) (found : Bool) (passed : refusal (layoutCh
   entries-pass h = passes-first (layoutChecks b) (entryChecks b) 0 passed
       (sym (refusal-passes _ _ (false-tests (tests-largeEntry b) (sym decides ∙ h)) ∙ refusal-none))
 
--- an opened table's numbers, and a refused one's
-pub opened-is : {A : Type 0} (b : List ℕ) (j : ℕ) (x z : A) → refusal (openChecks b j) ≡ 0 → opened b j x z ≡ x
-unfolding opened
-opened-is b j x z e = rw e
-
-pub refused-is : {A : Type 0} (b : List ℕ) (j : ℕ) (x z : A) (m : ℕ) → m ≡ refusal (openChecks b j) → (m ≡ 0 → ⊥) → opened b j x z ≡ z
-unfolding opened
-refused-is b j x z m e f = rw (← e, ne-eqb m 0 f)
-
 pub opens-table : (b : List ℕ) (j : ℕ) → refusal (bundleChecks b) ≡ 0 → j < tableCount b → 0 ≡ refusal (openChecks b j)
 opens-table b j e h =
     let f : tableCount b ≤ j → ⊥ = λ x. omega arith in
@@ -66,9 +57,9 @@ module _ (b : List ℕ) (j : ℕ) where
   refused-zeros : (m : ℕ) → m ≡ refusal (openChecks b j) → (m ≡ 0 → ⊥) → LocatePromise b j (record { refusal = m; n = 0; rows = 0; place = 0 })
   refused-zeros m e f = record {
     number = e;
-    variables = sym (refused-is b j _ 0 m e f);
-    count = sym (refused-is b j _ 0 m e f);
-    begins = sym (refused-is b j _ 0 m e f);
+    variables = sym (answered-refused (openChecks b j) _ 0 (λ z. f (e ∙ z)));
+    count = sym (answered-refused (openChecks b j) _ 0 (λ z. f (e ∙ z)));
+    begins = sym (answered-refused (openChecks b j) _ 0 (λ z. f (e ∙ z)));
   }
 
   -- the bundle is refused
@@ -87,9 +78,9 @@ module _ (b : List ℕ) (j : ℕ) where
       let t = accepted-bundle b e .layout .tables j h in
       record {
         number = p;
-        variables = v ∙ sym (opened-is b j _ 0 (sym p));
-        count = r ∙ sym (opened-is b j _ 0 (sym p));
-        begins = o ∙ t .begins ∙ sym (opened-is b j _ 0 (sym p));
+        variables = v ∙ sym (answered-accepted (openChecks b j) _ 0 (sym p));
+        count = r ∙ sym (answered-accepted (openChecks b j) _ 0 (sym p));
+        begins = o ∙ t .begins ∙ sym (answered-accepted (openChecks b j) _ 0 (sym p));
       }
 
 -- where table j is opened the bundle is accepted, and has a table j
@@ -102,35 +93,31 @@ open-accepted b j e =
 
 -- what is found lies within the bundle: the body of a table, or nothing at its start
 module _ (b : List ℕ) (j : ℕ) (f : Located) (p : LocatePromise b j f) where
-  zero-sized : (refusal (openChecks b j) ≡ 0 → ⊥) → (f .n ≡ 0) × (f .rows ≡ 0) × (f .place ≡ 0)
-  zero-sized g =
-      let m = refusal (openChecks b j) in
-      (p .variables ∙ refused-is b j _ 0 m refl g, p .count ∙ refused-is b j _ 0 m refl g, p .begins ∙ refused-is b j _ 0 m refl g)
+  -- n, row count and place, opened and refused
+  pub numbers : refusal (openChecks b j) ≡ 0 → (f .n ≡ variablesOf b) × (f .rows ≡ rowCount b j) × (f .place ≡ placeOf b j)
+  numbers e = (
+    p .variables ∙ answered-accepted (openChecks b j) _ 0 e,
+    p .count ∙ answered-accepted (openChecks b j) _ 0 e,
+    p .begins ∙ answered-accepted (openChecks b j) _ 0 e,
+  )
+
+  pub zeros : (refusal (openChecks b j) ≡ 0 → ⊥) → (f .n ≡ 0) × (f .rows ≡ 0) × (f .place ≡ 0)
+  zeros g = (
+    p .variables ∙ answered-refused (openChecks b j) _ 0 g,
+    p .count ∙ answered-refused (openChecks b j) _ 0 g,
+    p .begins ∙ answered-refused (openChecks b j) _ 0 g,
+  )
 
   pub found-within : FoundWithin b f
   found-within = by-cases (ℕ-discrete (refusal (openChecks b j)) 0)
-      (λ e.
-      let a = open-accepted b j e in
-      let w = a .0 .layout .tables j (a .1) .within in
-      rw (p .begins, p .count, p .variables, opened-is b j (placeOf b j) 0 e, opened-is b j (rowCount b j) 0 e, opened-is b j (variablesOf b) 0 e) w)
-      (λ g.
-      let z = zero-sized g in
-      rw (z .2, z .1, z .0) (omega arith))
-
-  size-is : f .rows * f .n ≡ opened b j (bodyLength b j) 0
-  size-is = by-cases (ℕ-discrete (refusal (openChecks b j)) 0)
-      (λ e. rw (p .count, p .variables, opened-is b j (rowCount b j) 0 e, opened-is b j (variablesOf b) 0 e, opened-is b j (bodyLength b j) 0 e))
-      (λ g.
-      let z = zero-sized g in
-      rw (z .1, z .0) (sym (refused-is b j (bodyLength b j) 0 (refusal (openChecks b j)) refl g)))
+      (λ e. let a = open-accepted b j e in let z = numbers e in rw (z .2, z .1, z .0) (a .0 .layout .tables j (a .1) .within))
+      (λ g. let z = zeros g in rw (z .2, z .1, z .0) (omega arith))
 
   -- the part that is cut is the table's body, or empty
-  pub body-shown : take (f .rows * f .n) (drop (f .place) b) ≡ opened b j (bodyOf b j) []
+  pub body-shown : take (f .rows * f .n) (drop (f .place) b) ≡ answered (openChecks b j) (bodyOf b j) []
   body-shown = by-cases (ℕ-discrete (refusal (openChecks b j)) 0)
-      (λ e. rw (size-is, p .begins, opened-is b j (bodyLength b j) 0 e, opened-is b j (placeOf b j) 0 e, opened-is b j (bodyOf b j) [] e))
-      (λ g.
-      let m = refusal (openChecks b j) in
-      rw (size-is, refused-is b j (bodyLength b j) 0 m refl g, refused-is b j (bodyOf b j) [] m refl g))
+      (λ e. let z = numbers e in rw (z .2, z .1, z .0) (sym (answered-accepted (openChecks b j) (bodyOf b j) [] e)))
+      (λ g. let z = zeros g in rw (z .2, z .1, z .0) (sym (answered-refused (openChecks b j) (bodyOf b j) [] g)))
 
 -- so a table that is located and cut is opened
 pub opens : (b : RefT (List ℕ)) (j : ℕ) (f : Located) (r : RefT (List ℕ)) → LocatePromise (now b) j f → PartOf b (f .place) (f .rows * f .n) r

@@ -25,10 +25,11 @@ use mathlib.Core.Logic.{_⊎_}
 use Prim.Native.Nat.{ℕ, zero, suc, _+_, _≤_, _<_}
 use lib.Dec.{leb, ltb, eqb, lit<}
 use lib.ListN.{length}
-use Rattle.terms.specs.Tests.{Tests, any, tests-le, tests-lt, tests-eq, tests-and, tests-or, tests-not}
-use Rattle.terms.specs.Refusals.{Check, check, EntryAbove50, tests-entryAbove50, tests-notOneToSix}
+use Rattle.checks.specs.Tests.{Tests, any, SomeBelow, someBelow}
+use Rattle.checks.proofs.TestLaws.{tests-le, tests-lt, tests-eq, tests-and, tests-or, tests-not, tests-someBelow}
+use Rattle.checks.specs.Refusals.{Check, check}
+use Rattle.terms.specs.TableChecks.{EntryAbove50, tests-entryAbove50, tests-notOneToSix}
 use Rattle.bundle.specs.Format.{variablesOf, tableCount, headerLength, rowCount, offsetOf, bodyLength, placeOf, bodyOf}
-use Rattle.bundle.specs.Some.{SomeBelow, someBelow, tests-someBelow}
 
 -- ---- the conditions
 

@@ -1,5 +1,4 @@
 -- The bundle: its format, the conditions on which it is refused, and what the reader promises.
 pub mod Format
-pub mod Some
 pub mod Checks
 pub mod Operation

@@ -1,6 +1,5 @@
 -- What the reader promises.
 --
---   opened b j x z   x where table j of b is opened, z where it is refused
 --   LocatePromise b j r   `locate`: refusal, n, row count and place of table j of b
 --   FoundWithin b r  what was found lies within b
 --   PartOf b place size r   r shows the part of b that begins at the place and has that size
@@ -10,24 +9,19 @@ use mathlib.Core.Path.{_≡_}
 use mathlib.Core.List.{List, []}
 use Prim.Native.Nat.{ℕ, _+_, _*_, _≤_}
 use denote.Ref.{RefT, ptr, now}
-use lib.Dec.{eqb}
 use lib.ListN.{length, take, drop}
-use Rattle.terms.specs.Tests.{pick}
-use Rattle.terms.specs.Refusals.{refusal}
+use Rattle.checks.specs.Refusals.{refusal, answered}
 use Rattle.bundle.specs.Format.{variablesOf, rowCount, placeOf, bodyOf}
 use Rattle.bundle.specs.Checks.{openChecks}
 use Rattle.bundle.specs.declared.Located.{Located}
 use Rattle.bundle.specs.declared.OpenedTable.{OpenedTable}
 
-unfoldable pub opened : {A : Type 0} → List ℕ → ℕ → A → A → A
-opened b j x z = pick (eqb (refusal (openChecks b j)) 0) x z
-
--- the number of the first check that refuses, and beside it the table's n, row count and place, all 0 where it is refused
+-- the number of the first check that refuses, and beside it the table's n, row count and place; the numbers beside a refusal are 0
 pub record LocatePromise (b : List ℕ) (j : ℕ) (r : Located) : Type 0 where
   pub number : r .refusal ≡ refusal (openChecks b j)
-  pub variables : r .n ≡ opened b j (variablesOf b) 0
-  pub count : r .rows ≡ opened b j (rowCount b j) 0
-  pub begins : r .place ≡ opened b j (placeOf b j) 0
+  pub variables : r .n ≡ answered (openChecks b j) (variablesOf b) 0
+  pub count : r .rows ≡ answered (openChecks b j) (rowCount b j) 0
+  pub begins : r .place ≡ answered (openChecks b j) (placeOf b j) 0
 
 abbrev pub FoundWithin : List ℕ → Located → Type 0
 FoundWithin b r = r .place + r .rows * r .n ≤ length b
@@ -39,14 +33,14 @@ pub record PartOf (b : RefT (List ℕ)) (place size : ℕ) (r : RefT (List ℕ))
   pub place-in : ptr r .1 ≡ place + ptr b .1
 
 -- the number of the first check that refuses; beside it the table's n and row count, and the part of the bundle that is
--- its body. On a refusal the numbers are 0 and the part is empty
+-- its body. The numbers beside a refusal are 0, and the part is empty: it stands at the bundle's own start
 pub record OpenPromise (b : RefT (List ℕ)) (j : ℕ) (r : OpenedTable) : Type 0 where
   pub number : r .refusal ≡ refusal (openChecks (now b) j)
-  pub variables : r .n ≡ opened (now b) j (variablesOf (now b)) 0
-  pub count : r .rows ≡ opened (now b) j (rowCount (now b) j) 0
-  pub shown : now (r .bytes) ≡ opened (now b) j (bodyOf (now b) j) []
+  pub variables : r .n ≡ answered (openChecks (now b) j) (variablesOf (now b)) 0
+  pub count : r .rows ≡ answered (openChecks (now b) j) (rowCount (now b) j) 0
+  pub shown : now (r .bytes) ≡ answered (openChecks (now b) j) (bodyOf (now b) j) []
   pub block : ptr (r .bytes) .0 ≡ ptr b .0
-  pub begins : ptr (r .bytes) .1 ≡ opened (now b) j (placeOf (now b) j) 0 + ptr b .1
+  pub begins : ptr (r .bytes) .1 ≡ answered (openChecks (now b) j) (placeOf (now b) j) 0 + ptr b .1
 
 -- two opened tables are the same: numbers, bytes, and where these stand
 pub record SameOpened (r s : OpenedTable) : Type 0 where

@@ -3,17 +3,17 @@ ghost use mathlib.Core.Path.{_≡_};
 ghost use mathlib.Core.List.{_++_};
 ghost use Prim.Native.Nat.{_+_, _*_, _≤_, _<_};
 ghost use lib.ListN.{length};
-ghost use Rattle.terms.specs.Refusals.{refusal};
+ghost use Rattle.checks.specs.Refusals.{refusal};
 ghost use Rattle.bundle.specs.Format.{byteAt, number16, variablesOf, tableCount, placeOf};
 ghost use Rattle.bundle.specs.Checks.{frameChecks, tableChecksOf, tablesChecks, remainChecks, layoutChecks, bundleChecks};
 ghost use Rattle.bundle.specs.Operation.{LocatePromise, FoundWithin, PartOf, OpenPromise};
 
 // The most bytes of a bundle, and the most tables.
-pub const MOST_BYTES: usize = 65535;
+const MOST_BYTES: usize = 65535;
 
 pub const MOST_TABLES: usize = 16;
 
-// Where a table stands: its n, its row count and the place where its bytes begin, or all 0 beside a refusal.
+// Where a table stands: its n, its row count and the place where its bytes begin; the numbers beside a refusal are 0.
 pub struct Located {
     pub refusal: u8,
     pub n: usize,
@@ -72,7 +72,7 @@ fn frame_refusal(bundle: &[u8]) -> u8
 }
 
 // The checks of table j, whose body must begin at the place: 3, 10, 11.
-fn one_table_refusal(bundle: &[u8], n: usize, j: usize, place: usize) -> u8
+fn one_table_refusal(n: usize, bundle: &[u8], j: usize, place: usize) -> u8
     requires { ⌜ (refusal (frameChecks (now bundle)) ≡ 0) × (n ≡ variablesOf (now bundle)) × (j < tableCount (now bundle))
         × (place ≡ placeOf (now bundle) j) × (place ≤ 65535) ⌝ }
     ensures { λ r. ⌜ r ≡ refusal (tableChecksOf (now (bundle .entry)) j) ⌝ }
@@ -94,14 +94,14 @@ fn one_table_refusal(bundle: &[u8], n: usize, j: usize, place: usize) -> u8
 }
 
 // The checks of each table in turn, then that no bytes remain (11).
-fn tables_refusal(bundle: &[u8], n: usize, tables: usize) -> u8
+fn tables_refusal(n: usize, bundle: &[u8], tables: usize) -> u8
     requires { ⌜ (refusal (frameChecks (now bundle)) ≡ 0) × (n ≡ variablesOf (now bundle)) × (tables ≡ tableCount (now bundle)) ⌝ }
     ensures { λ r. ⌜ r ≡ refusal (tablesChecks (now (bundle .entry)) 0 tables ++ remainChecks (now (bundle .entry))) ⌝ }
 {
     let mut place = 2 + 4 * tables;
     let mut j = 0;
     while j < tables {
-        let number = one_table_refusal(bundle, n, j, place);
+        let number = one_table_refusal(n, bundle, j, place);
         if number != 0 {
             return number;
         }
@@ -121,7 +121,7 @@ fn layout_refusal(bundle: &[u8]) -> u8
     }
     let n = byte_at(bundle, 0);
     let tables = byte_at(bundle, 1);
-    tables_refusal(bundle, n, tables)
+    tables_refusal(n, bundle, tables)
 }
 
 // The number of the first check that refuses the bundle, whichever table is asked for; 0 where none does.
@@ -140,25 +140,14 @@ pub fn bundle_refusal(bundle: &[u8]) -> u8
     0
 }
 
-// The number of tables that a bundle says it has.
-pub fn table_count(bundle: &[u8]) -> usize
-    ensures { λ r. ⌜ (r ≡ tableCount (now (bundle .entry))) × (r < 256) ⌝ }
-{
-    if bundle.len() < 2 {
-        0
-    } else {
-        byte_at(bundle, 1)
-    }
-}
-
-// The refusal, n, the row count and the place of table j.
-pub fn locate(bundle: &[u8], j: usize) -> Located
+// The refusal, n, the row count and the place of table j, from the number by which the bundle is refused.
+pub fn locate_checked(bundle: &[u8], refused: u8, j: usize) -> Located
+    requires { ⌜ refused ≡ refusal (bundleChecks (now bundle)) ⌝ }
     ensures { λ r. ⌜ LocatePromise (now (bundle .entry)) j r ⌝ }
 {
-    let number = bundle_refusal(bundle);
-    if number != 0 {
+    if refused != 0 {
         return Located {
-            refusal: number,
+            refusal: refused,
             n: 0,
             rows: 0,
             place: 0,
@@ -183,8 +172,15 @@ pub fn locate(bundle: &[u8], j: usize) -> Located
     }
 }
 
-// A table shown: the part of the lent bundle that it is, with its n and its row count beside it. On a refusal the
-// numbers are 0 and the part is empty.
+// The refusal, n, the row count and the place of table j.
+pub fn locate(bundle: &[u8], j: usize) -> Located
+    ensures { λ r. ⌜ LocatePromise (now (bundle .entry)) j r ⌝ }
+{
+    locate_checked(bundle, bundle_refusal(bundle), j)
+}
+
+// A table shown: the part of the lent bundle that it is, with its n and its row count beside it. The numbers beside a
+// refusal are 0, and the part is empty: it begins at the bundle's own start.
 pub struct OpenedTable<'a> {
     pub bytes: &'a [u8],
     pub n: usize,

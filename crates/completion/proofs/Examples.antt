@@ -1,22 +1,18 @@
--- Examples A, B, D, E, H, I and J of the paper, of rule 5 and of what `complete` promises.
+-- Examples A, B, D, E, H and I of the paper, of rule 5.
 --
 --   example-A ..           the completed table computes to the paper's
 --   example-A-table ..     that table is rule 5's, in the paper's words
---   example-J-..           every result that the promise allows for D's rows with 6 and with 5 bytes of room
-use mathlib.Core.Path.{_≡_, refl, ap, _∙_, subst}
-use mathlib.Core.List.{List, [], _∷_}
+use mathlib.Core.Path.{_≡_, refl, subst}
+use mathlib.Core.List.{[]}
 use Prim.Native.Nat.{ℕ}
 use lib.Dec.{T, eqb}
 use lib.ListN.{length}
-use Rattle.terms.specs.Tests.{all, tests-all, tests-eq}
+use Rattle.checks.specs.Tests.{all}
+use Rattle.checks.proofs.TestLaws.{tests-all, tests-eq}
 use Rattle.terms.specs.Monomials.{Monomial, Table, OfSize}
-use Rattle.terms.specs.Rows.{rows}
-use Rattle.terms.specs.ExampleTables.{tableB, tableD, bytesD, completedD, tableE, completedE, tableF, completedF, tableI, completedI}
+use Rattle.terms.specs.ExampleTables.{tableB, tableD, completedD, tableE, completedE, tableF, completedF, tableI, completedI}
 use Rattle.completion.specs.Completed.{CompletedTable, completed}
-use Rattle.completion.specs.Operation.{roomFor, completeAnswer, completeBuffer, CompletePromise}
-use Rattle.completion.specs.declared.CompleteAnswer.{CompleteAnswer}
-use Rattle.completion.specs.declared.CompleteAnswer.the-variants.{Rows, Refused}
-use Rattle.completion.proofs.CompletedLaws.{completed-table}
+use Rattle.completion.proofs.RuleFive.{completed-table}
 
 sized : (n : ℕ) (G : Table) → T (all (λ u. eqb (length u) n) G) → OfSize n G
 sized n G t = tests-all G (λ (u : Monomial) m. tests-eq (length u) n) .sound t
@@ -78,30 +74,3 @@ example-I = refl
 
 pub example-I-table : CompletedTable 3 tableI completedI
 example-I-table = table-of 3 tableI completedI tt example-I
-
--- ---- J: D's rows with 6 bytes of room and with 5
-
-answer-six : completeAnswer 2 bytesD 6 ≡ Rows 3
-unfolding completeAnswer completed rows roomFor
-answer-six = refl
-
-answer-five : completeAnswer 2 bytesD 5 ≡ Refused 8
-unfolding completeAnswer completed rows roomFor
-answer-five = refl
-
-pub example-J-accepted : (buffer : List ℕ) {answer : CompleteAnswer} {after : List ℕ} → length buffer ≡ 6 → CompletePromise 2 bytesD buffer answer after →
-    answer ≡ Rows 3
-example-J-accepted buffer e p = p .answers ∙ ap (completeAnswer 2 bytesD) e ∙ answer-six
-
-pub example-J-refused : (buffer : List ℕ) {answer : CompleteAnswer} {after : List ℕ} → length buffer ≡ 5 → CompletePromise 2 bytesD buffer answer after →
-    answer ≡ Refused 8
-example-J-refused buffer e p = p .answers ∙ ap (completeAnswer 2 bytesD) e ∙ answer-five
-
--- what six lent bytes become, and what five stay
-pub example-J-written : (a b c d e f : ℕ) → completeBuffer 2 bytesD (a ∷ b ∷ c ∷ d ∷ e ∷ f ∷ []) ≡ 0 ∷ 2 ∷ 1 ∷ 2 ∷ 2 ∷ 1 ∷ []
-unfolding completeBuffer completed rows roomFor
-example-J-written a b c d e f = refl
-
-pub example-J-kept : (a b c d e : ℕ) → completeBuffer 2 bytesD (a ∷ b ∷ c ∷ d ∷ e ∷ []) ≡ a ∷ b ∷ c ∷ d ∷ e ∷ []
-unfolding completeBuffer completed rows roomFor
-example-J-kept a b c d e = refl

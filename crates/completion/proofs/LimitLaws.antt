@@ -24,8 +24,8 @@ use Rattle.terms.proofs.MonomialLaws.{beyond, positive}
 use Rattle.completion.specs.Completed.{Completed}
 use Rattle.completion.specs.Slices.{slice, under, heads}
 use Rattle.completion.proofs.BlockLaws.{Lists, lists-as, Heads, cons-of}
-use Rattle.completion.proofs.SliceLaws.{below-size, slice-into, slice-back, Beyond, completed-slice, slice-completed, grows-beyond}
-use Rattle.completion.proofs.SliceLaws.{beyond-grows, heads-above, lastGrowing, last-growing}
+use Rattle.completion.proofs.SliceLaws.{below-size, slice-into, slice-back, Beyond, completed-slice, slice-completed, grows-beyond, beyond-grows}
+use Rattle.completion.proofs.SliceLaws.{heads-above, lastGrowing, last-growing}
 
 -- ---- any limit
 

@@ -28,16 +28,17 @@ use native.Mathlib.Decide.{decLe, decLt}
 use native.Mathlib.Omega.{arith}
 use lib.Dec.{T, ltb, eqb}
 use lib.ListN.{length}
-use Rattle.terms.specs.Tests.{Tests, pick, keep, tests-lt, tests-eq, tests-not, tests-any, tests-as, keep-in, keep-make}
+use Rattle.checks.specs.Tests.{Tests, pick, keep}
+use Rattle.checks.proofs.TestLaws.{tests-lt, tests-eq, tests-not, tests-any, tests-as, keep-in, keep-make}
 use Rattle.terms.specs.Monomials.{Monomial, Table, _!_, _∈_, OfSize, SameBefore, times}
 use Rattle.terms.specs.Ideal.{Divides, Inside, SameIdeal}
 use Rattle.terms.proofs.MonomialLaws.{before-first}
 use Rattle.terms.proofs.IdealLaws.{tests-inside, inside?, inside-up, inside-none, divides-refl, same-ideal-sym}
 use Rattle.completion.specs.Completed.{Enters, Completed, CompletedTable}
-use Rattle.completion.specs.Slices.{head, slice, at, below, under, front, heads, fresh, stepped}
-use Rattle.completion.proofs.BlockLaws.{Lists, lists-as, lists-none, lists-one, Heads, heads-as, heads-front, repeat-lists, behind-lists}
-use Rattle.completion.proofs.BlockLaws.{cons-of, cons-same}
-use Rattle.completion.proofs.CompletedLaws.{completed-ideal, table-ideal}
+use Rattle.completion.specs.Slices.{head, slice, at, below, under, front, heads, fresh, lengthened}
+use Rattle.completion.proofs.BlockLaws.{Lists, lists-as, lists-none, lists-one, Heads, heads-as, heads-front, repeat-lists, behind-lists, cons-of}
+use Rattle.completion.proofs.BlockLaws.{cons-same}
+use Rattle.completion.proofs.RuleFive.{completed-ideal, table-ideal}
 
 -- the completed table as a list of the monomials with a property, and back
 pub table-lists : {n : ℕ} {G H : Table} → CompletedTable n G H → Lists (Completed n G) H
@@ -386,7 +387,7 @@ module _ {n : ℕ} {S : Table → Monomial → Type 0} (y : ByIdeal n S) (G : Ta
           absurd (omega (arith, below-use a q .head)))
 
   pub upto-grows : {L B C : Table} → Lists (Upto S G a last) L → Lists (S (below a G)) B → Lists (S (under a G)) C →
-      Lists (Upto S G (suc a) a) (stepped L last B a C)
+      Lists (Upto S G (suc a) a) (lengthened L last B a C)
   upto-grows {L} {B} {C} l b c = lists-as (λ u h. heads-as after h) (λ u h. heads-as before h)
       (behind-lists a (repeat-lists (suc last) (a - suc last) l (λ x p. omega (arith, p .1))
       (λ x h i. moves-lists y (below a G) (under x G) (quiet x h (omega arith)) b)) first c)
@@ -542,7 +543,7 @@ front-part n G z a l m =
 -- ---- law 7: one variable, and none
 
 -- m is the least head
-pub record Least (G : Table) (m : ℕ) : Type 0 where
+pub record LeastHead (G : Table) (m : ℕ) : Type 0 where
   pub row : Monomial
   pub member : row ∈ G
   pub head : row ! 1 ≡ m
@@ -568,7 +569,7 @@ no-variables {G} z m = lists-table (lists-one [] (record { size = refl; inside =
     each (suc i) p = absurd (not-suc-le-zero p)
 
 -- The head m is in the table; a larger one is not, since there the slice below it already has everything; a smaller one is outside the ideal.
-pub one-variable : {G : Table} {m : ℕ} → OfSize 1 G → Least G m → CompletedTable 1 G ((m ∷ []) ∷ [])
+pub one-variable : {G : Table} {m : ℕ} → OfSize 1 G → LeastHead G m → CompletedTable 1 G ((m ∷ []) ∷ [])
 one-variable {G} {m} z k = lists-table (lists-one (m ∷ []) row all)
   where
     row-in : (b : ℕ) → m < b → Inside (below b G) (tail (k .row))

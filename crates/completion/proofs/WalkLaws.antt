@@ -6,13 +6,12 @@
 --   passed-step, passed    it holds after one more head, and after each number of them
 --   slices-table           the recursion gives the completed table of every table
 --   slices-completed       it is `completed`
---   slices-same            tables with the same ideal give the same
 --   slices-none, slices-one   no rows; one variable: the least exponent
 --   slices-walk, walk-stays, walk-grows   the recursion and the walk, equation by equation
---   walk-few, walk-room    the generators are no more than the rows passed, and with the tails of a head no more than the rows
+--   walk-no-longer, walk-room    the generators are no more than the rows passed, and with the tails of a head no more than the rows
 --   walk-generators, walk-block, walk-written   the sizes of the rows in the walk of `slices`
---   walk-part, walk-done   what the walk has written is a front part of the result, and past the last head it is the result
-use mathlib.Core.Path.{_≡_, refl, sym, ap}
+--   walk-part              what the walk has written is a front part of the result
+use mathlib.Core.Path.{_≡_, refl, ap}
 use mathlib.Core.Bool.{Bool, true, false}
 use mathlib.Core.List.{[], _∷_, _++_, map, tail, List·Memᴰ·head, List·Memᴰ·not-nil, List·Memᴰ·append-cases}
 use mathlib.Core.Logic.{⊎-elim}
@@ -21,19 +20,20 @@ use native.Mathlib.Nat.{not-suc-le-zero}
 use native.Mathlib.Omega.{arith}
 use lib.Dec.{T, ltb, eqb}
 use lib.ListN.{length, length-append}
-use Rattle.terms.specs.Tests.{Tests, pick, keep, tests-lt, tests-eq}
-use Rattle.terms.specs.Monomials.{Monomial, Table, _!_, _∈_, OfSize}
+use Rattle.checks.specs.Tests.{Tests, pick, keep}
+use Rattle.checks.proofs.TestLaws.{tests-lt, tests-eq}
+use Rattle.terms.specs.Monomials.{Monomial, Table, _!_, OfSize}
 use Rattle.terms.specs.Ideal.{SameIdeal}
 use Rattle.terms.proofs.IdealLaws.{inside-none, same-ideal-refl, same-ideal-sym, same-ideal-trans}
 use Rattle.completion.specs.Blocks.{behind, repeated}
 use Rattle.completion.specs.Completed.{Completed, CompletedTable, completed}
 use Rattle.completion.specs.Slices.{slice, at, below, under, front, heads, fresh, Walk, started, shorter, grown, step, walk, slices}
 use Rattle.completion.proofs.BlockLaws.{Lists, lists-none}
-use Rattle.completion.proofs.CompletedLaws.{completed-table, completed-same-ideal}
-use Rattle.completion.proofs.CompletionLaws.{completion-ideal}
-use Rattle.completion.proofs.SliceLaws.{table-lists, lists-table, at-size, below-none, Grows, still-ideal, tests-grows-by, generates-under}
-use Rattle.completion.proofs.SliceLaws.{ByIdeal, moves-lists, completed-settled, Last, last-start, last-stays, last-grows, Upto, upto-stays}
-use Rattle.completion.proofs.SliceLaws.{upto-grows, front-table, finish, front-part, heads-above, empty, no-variables, one-variable, Least}
+use Rattle.completion.proofs.RuleFive.{completed-table, completed-same-ideal}
+use Rattle.completion.proofs.SmallestTable.{completion-ideal}
+use Rattle.completion.proofs.SliceLaws.{table-lists, lists-table, at-size, below-none, Grows, still-ideal, tests-grows-by, generates-under, ByIdeal}
+use Rattle.completion.proofs.SliceLaws.{moves-lists, completed-settled, Last, last-start, last-stays, last-grows, Upto, upto-stays, upto-grows}
+use Rattle.completion.proofs.SliceLaws.{front-table, finish, front-part, heads-above, empty, no-variables, one-variable, LeastHead}
 
 -- ---- the walk over the heads
 
@@ -144,9 +144,6 @@ slices-table (suc n) G z = finish n G (heads-above G) (janet-front n G z (slices
 pub slices-unique : {n : ℕ} {G H K : Table} → OfSize n G → SameIdeal n G H → CompletedTable n H K → slices n G ≡ K
 slices-unique {n} {G} z s t = completed-same-ideal s (slices-table n G z) t
 
-pub slices-same : {n : ℕ} {G H : Table} → OfSize n G → OfSize n H → SameIdeal n G H → slices n G ≡ slices n H
-slices-same {n} {G} {H} z y s = slices-unique z s (slices-table n H y)
-
 pub slices-completed : (n : ℕ) (G : Table) → OfSize n G → slices n G ≡ completed n G
 slices-completed n G z = slices-unique z (same-ideal-refl n G) (completed-table n G z)
 
@@ -156,7 +153,7 @@ slices-size n G z u m = slices-table n G z .only u m .size
 pub slices-none : (n : ℕ) → slices n [] ≡ []
 slices-none n = slices-unique (size-none n) (same-ideal-refl n []) (empty n)
 
-pub slices-one : {G : Table} {m : ℕ} → OfSize 1 G → Least G m → slices 1 G ≡ (m ∷ []) ∷ []
+pub slices-one : {G : Table} {m : ℕ} → OfSize 1 G → LeastHead G m → slices 1 G ≡ (m ∷ []) ∷ []
 slices-one {G} z l = slices-unique z (same-ideal-refl 1 G) (one-variable z l)
 
 -- ---- the walk, equation by equation
@@ -196,10 +193,10 @@ slices-within f g h (u ∷ G) p q r = go (f (u ! 1)) (g (u ! 1)) (h (u ! 1)) (p 
     go false false true i j k l = omega arith
     go false false false i j k l = l
 
-pub slice-few : (f : ℕ → Bool) (G : Table) → length (slice f G) ≤ length G
+pub slice-no-longer : (f : ℕ → Bool) (G : Table) → length (slice f G) ≤ length G
 unfolding slice
-slice-few f [] = omega arith
-slice-few f (u ∷ G) = go (f (u ! 1)) (slice-few f G)
+slice-no-longer f [] = omega arith
+slice-no-longer f (u ∷ G) = go (f (u ! 1)) (slice-no-longer f G)
   where
     go : (x : Bool) → length (slice f G) ≤ length G → length (map tail (pick x (u ∷ keep (λ v. f (v ! 1)) G) (keep (λ v. f (v ! 1)) G))) ≤ suc (length G)
     go true l = omega arith
@@ -212,30 +209,30 @@ under-counts a G = slices-within (λ b. ltb b a) (λ b. eqb b a) (λ b. ltb b (s
     (λ b t. tests-lt b (suc a) .complete (omega (arith, tests-eq b a .sound t)))
     (λ b s t. omega (arith, tests-lt b a .sound s, tests-eq b a .sound t))
 
-shorter-few : (B K : Table) → length (shorter B K) ≤ length K
+shorter-no-longer : (B K : Table) → length (shorter B K) ≤ length K
 unfolding shorter
-shorter-few B K = go (ltb (length B) (length K)) (tests-lt (length B) (length K) .sound)
+shorter-no-longer B K = go (ltb (length B) (length K)) (tests-lt (length B) (length K) .sound)
   where
     go : (c : Bool) → (T c → length B < length K) → length (pick c B K) ≤ length K
     go true l = omega (arith, l tt)
     go false l = omega arith
 
 -- whatever f gives, the shorter of it and its generators is kept
-pub walk-few : (f : Table → Table) (G : Table) (a : ℕ) → length (walk f G a .generators) ≤ length (below a G)
+pub walk-no-longer : (f : Table → Table) (G : Table) (a : ℕ) → length (walk f G a .generators) ≤ length (below a G)
 unfolding walk step grown
-walk-few f G zero = omega arith
-walk-few f G (suc a) = go (fresh (walk f G a .generators) (at a G)) (walk-few f G a)
+walk-no-longer f G zero = omega arith
+walk-no-longer f G (suc a) = go (fresh (walk f G a .generators) (at a G)) (walk-no-longer f G a)
   where
     K : Table
     K = walk f G a .generators ++ at a G
 
     go : (c : Bool) → length (walk f G a .generators) ≤ length (below a G) →
         length (pick c (grown f a (walk f G a) (walk f G a .generators ++ at a G)) (walk f G a) .generators) ≤ length (under a G)
-    go true l = omega (arith, shorter-few (f K) K, length-append (walk f G a .generators) (at a G), under-counts a G)
+    go true l = omega (arith, shorter-no-longer (f K) K, length-append (walk f G a .generators) (at a G), under-counts a G)
     go false l = omega (arith, under-counts a G)
 
 pub walk-room : (f : Table → Table) (G : Table) (a : ℕ) → length (walk f G a .generators) + length (at a G) ≤ length G
-walk-room f G a = omega (arith, walk-few f G a, under-counts a G, slice-few (λ b. ltb b (suc a)) G)
+walk-room f G a = omega (arith, walk-no-longer f G a, under-counts a G, slice-no-longer (λ b. ltb b (suc a)) G)
 
 module _ (n : ℕ) (G : Table) (z : OfSize (suc n) G) (a : ℕ) where
   pub walk-generators : OfSize n (walk (λ H. slices n H) G a .generators)
@@ -256,7 +253,3 @@ module _ (n : ℕ) (G : Table) (z : OfSize (suc n) G) (a : ℕ) where
 -- What the walk has written is a front part of the result.
 pub walk-part : (n : ℕ) (G : Table) → OfSize (suc n) G → (a : ℕ) → (R : Table) × (walk (λ H. slices n H) G a .written ++ R ≡ slices (suc n) G)
 walk-part n G z a = front-part n G z a (janet-front n G z (slices-table n) a) (slices-table (suc n) G z)
-
--- past the last head it is the result
-pub walk-done : (n : ℕ) (G : Table) → OfSize (suc n) G → (a : ℕ) → ((u : Monomial) → u ∈ G → u ! 1 < a) → walk (λ H. slices n H) G a .written ≡ slices (suc n) G
-walk-done n G z a h = sym (slices-unique z (same-ideal-refl (suc n) G) (finish n G h (janet-front n G z (slices-table n) a)))

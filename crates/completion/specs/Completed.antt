@@ -15,7 +15,7 @@ use mathlib.Core.List.{[], _∷_, _++_}
 use Prim.Native.Nat.{ℕ, zero, suc, _+_, _-_, _<_, max}
 use lib.Dec.{ltb, eqb}
 use lib.ListN.{length, take, drop, replicate}
-use Rattle.terms.specs.Tests.{_implies_, each, any, keep}
+use Rattle.checks.specs.Tests.{_implies_, each, any, keep}
 use Rattle.terms.specs.Monomials.{Monomial, Table, _!_, _∈_, SameBefore, times}
 use Rattle.terms.specs.Ideal.{Inside, dividesTest, insideTest}
 use Rattle.terms.specs.Order.{Ascending}

@@ -1,6 +1,4 @@
--- Rule 5: the completed table, the completion by slices, and what `complete` promises.
+-- Rule 5: the completed table, and the completion by slices.
 pub mod Blocks
 pub mod Completed
 pub mod Slices
-pub mod Operation
-pub mod Code

@@ -9,22 +9,20 @@
 --   fresh G tails        one of the tails is outside the ideal of G
 --   Walk                 the state of the walk over the heads
 --   shorter B G          the one of two tables that has fewer rows, G where they have as many
---   started, stepped     the walk before the first head; what is written after a growing head
+--   started, lengthened  the walk before the first head; what is written after a growing head
 --   grown f a w G        the walk after a head a that adds to the ideal: G generates the slice of the heads up to a
 --   step f G a w         the walk after head a
 --   walk f G a           the walk after the heads below a
 --   slices n G           the recursion: the walk over all heads of G, with itself on the tails
---   after p H            the rows of H with the exponents p before each: what is appended behind the first exponents p of a row
---   fit room e           the end e of what is written, or room + 1 where it is beyond the room
 --
 -- In each, f is the recursion on the tails. The walk writes, for each head a at which the ideal grows, first the last block again under each head
 -- since, and then the block of a. That `slices n G` is rule 5's table is proved in WalkLaws.
 use mathlib.Core.Bool.{Bool, not}
 use mathlib.Core.List.{[], _∷_, _++_, map, tail}
 use Prim.Native.Nat.{ℕ, zero, suc, _-_}
-use lib.Dec.{leb, ltb, eqb}
+use lib.Dec.{ltb, eqb}
 use lib.ListN.{length}
-use Rattle.terms.specs.Tests.{pick, any, keep}
+use Rattle.checks.specs.Tests.{pick, any, keep}
 use Rattle.terms.specs.Monomials.{Monomial, Table, _!_}
 use Rattle.terms.specs.Ideal.{insideTest}
 use Rattle.completion.specs.Blocks.{behind, repeated}
@@ -74,14 +72,14 @@ unfoldable pub shorter : Table → Table → Table
 shorter B G = pick (ltb (length B) (length G)) B G
 
 -- what is written after a growing head a with the block C: the block B of the last one under each head between, and then C
-abbrev pub stepped : Table → ℕ → Table → ℕ → Table → Table
-stepped L last B a C = L ++ repeated (suc last) (a - suc last) B ++ behind a C
+abbrev pub lengthened : Table → ℕ → Table → ℕ → Table → Table
+lengthened L last B a C = L ++ repeated (suc last) (a - suc last) B ++ behind a C
 
 unfoldable pub grown : (Table → Table) → ℕ → Walk → Table → Walk
 unfolding repeated behind shorter
 grown f a w G =
     let block : Table = f G in
-    record { written = stepped (w .written) (w .last) (w .block) a block; block = block; generators = shorter block G; last = a }
+    record { written = lengthened (w .written) (w .last) (w .block) a block; block = block; generators = shorter block G; last = a }
 
 unfoldable pub step : (Table → Table) → Table → ℕ → Walk → Walk
 unfolding slice fresh grown
@@ -102,11 +100,3 @@ unfolding walk heads
 slices zero [] = []
 slices zero (u ∷ G) = [] ∷ []
 slices (suc n) G = walk (λ H. slices n H) G (heads G) .written
-
--- ---- rows in a buffer
-
-unfoldable pub after : Monomial → Table → Table
-after p H = map (λ t. p ++ t) H
-
-unfoldable pub fit : ℕ → ℕ → ℕ
-fit room e = pick (leb e room) e (suc room)

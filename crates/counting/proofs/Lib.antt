@@ -1,9 +1,2 @@
--- The laws of counting.
-pub mod SumLaws
-pub mod ShareLaws
-pub mod CountLaws
-pub mod JanetCount
-pub mod PolynomialLaws
-pub mod PassLaws
+-- The laws of these promises.
 pub mod OperationLaws
-pub mod Examples

@@ -1,4 +1,2 @@
--- Rules 7 to 9: count, polynomial, steady degree, and what the operations promise of them.
-pub mod Counts
-pub mod Sums
+-- What count, polynomial and steady promise.
 pub mod Operations

@@ -1,16 +1,17 @@
 // Counts above the division (rules 7 to 9): count, polynomial and steady of a complete table.
-use division::marking::mark_ascending;
+use covering::table_complete;
+use marking::mark_ascending;
+use summing::count_sum;
+use summing::largest_degree;
+use summing::polynomial_sum;
 use terms::Degree;
-ghost use Rattle.counting.specs.Operations.{CountPromise, PolynomialPromise, SteadyPromise};
-
-pub mod checks;
-pub mod sums;
-
-use checks::count_refusal;
-use checks::steady_refusal;
-use sums::count_sum;
-use sums::polynomial_sum;
-use sums::steady_sum;
+use terms::MOST_ROWS;
+use terms::ascends;
+use terms::table_refusal;
+ghost use mathlib.Core.Path.{_≡_};
+ghost use Rattle.checks.specs.Refusals.{refusal};
+ghost use Rattle.terms.specs.TableChecks.{TableAccepted};
+ghost use Rattle.counting.specs.Operations.{countableChecks, countChecks, steadyChecks, CountPromise, PolynomialPromise, SteadyPromise};
 
 // What `count` answers.
 pub enum CountAnswer {
@@ -30,6 +31,49 @@ pub enum SteadyAnswer {
     Refused(u8),
 }
 
+// The largest degree that is counted.
+const LARGEST_DEGREE: usize = 300;
+
+// The first of the checks 6 and 7 that refuses, 0 where neither does.
+fn countable_refusal(n: usize, table: &[u8]) -> u8
+    requires { ⌜ TableAccepted n (now table) ⌝ }
+    ensures { λ r. ⌜ r ≡ refusal (countableChecks n (now (table .entry))) ⌝ }
+{
+    if !ascends(n, table) {
+        return 6;
+    }
+    if !table_complete(n, table) {
+        return 7;
+    }
+    0
+}
+
+// The first of the checks of count and polynomial that refuses, 0 where none does.
+fn count_refusal(n: usize, table: &[u8], s: Degree) -> u8
+    ensures { λ r. ⌜ r ≡ refusal (countChecks n (now (table .entry)) (s .0)) ⌝ }
+{
+    let refused = table_refusal(n, table);
+    if refused != 0 {
+        return refused;
+    }
+    let most = s.0;
+    if LARGEST_DEGREE < most {
+        return 5;
+    }
+    countable_refusal(n, table)
+}
+
+// The first of the checks of steady that refuses, 0 where none does.
+fn steady_refusal(n: usize, table: &[u8]) -> u8
+    ensures { λ r. ⌜ r ≡ refusal (steadyChecks n (now (table .entry))) ⌝ }
+{
+    let refused = table_refusal(n, table);
+    if refused != 0 {
+        return refused;
+    }
+    countable_refusal(n, table)
+}
+
 // The number of monomials of degree at most s outside the ideal of a complete table (rule 7).
 pub fn count(n: usize, table: &[u8], s: Degree) -> CountAnswer
     ensures { λ r. ⌜ CountPromise n (now (table .entry)) (s .0) r ⌝ }
@@ -38,7 +82,7 @@ pub fn count(n: usize, table: &[u8], s: Degree) -> CountAnswer
     if refused != 0 {
         return CountAnswer::Refused(refused);
     }
-    let mut marks = [0u8; 4096];
+    let mut marks = [0u8; MOST_ROWS];
     mark_ascending(n, table, &mut marks);
     CountAnswer::Value(count_sum(n, table, &marks, s))
 }
@@ -51,7 +95,7 @@ pub fn polynomial(n: usize, table: &[u8], s: Degree) -> PolynomialAnswer
     if refused != 0 {
         return PolynomialAnswer::Refused(refused);
     }
-    let mut marks = [0u8; 4096];
+    let mut marks = [0u8; MOST_ROWS];
     mark_ascending(n, table, &mut marks);
     PolynomialAnswer::Value(polynomial_sum(n, table, &marks, s))
 }
@@ -64,5 +108,5 @@ pub fn steady(n: usize, table: &[u8]) -> SteadyAnswer
     if refused != 0 {
         return SteadyAnswer::Refused(refused);
     }
-    SteadyAnswer::At(steady_sum(n, table))
+    SteadyAnswer::At(largest_degree(n, table))
 }

@@ -16,22 +16,22 @@ use Rattle.terms.specs.Ideal.{Divides, Inside}
 use Rattle.terms.proofs.MonomialLaws.{within, below-suc, before-zero, before-suc, times-at, times-same, times-other, times-above, length-times}
 use Rattle.terms.proofs.IdealLaws.{inside-up, inside-row}
 use Rattle.terms.proofs.RowsLaws.{member-at}
-use Rattle.division.specs.Cones.{Marking, DivisorAt, Covers, CompleteBy}
+use Rattle.division.specs.Cones.{Division, DivisorAt, Covers, CompleteBy}
 use Rattle.division.specs.Janet.{Multiplicative, JanetDivisor, Complete}
 use Rattle.division.proofs.JanetLaws.{multiplicative?, multiplicative-same, multiplicative-zero, largest, divisor-at, at-divisor}
 
 -- ---- outside the ideal, over any marks
 
-pub inside-divisor : {M : Marking} {G : Table} {r : ℕ} {q : Monomial} → DivisorAt M G r q → Inside G q
+pub inside-divisor : {M : Division} {G : Table} {r : ℕ} {q : Monomial} → DivisorAt M G r q → Inside G q
 inside-divisor {G = G} {r = r} d = record { row = rowAt G r; member = member-at G [] r (d .within); divides = d .cone .divides }
 
-pub outside-none : {M : Marking} {G : Table} {r : ℕ} {q : Monomial} → (Inside G q → ⊥) → DivisorAt M G r q → ⊥
+pub outside-none : {M : Division} {G : Table} {r : ℕ} {q : Monomial} → (Inside G q → ⊥) → DivisorAt M G r q → ⊥
 outside-none f d = f (inside-divisor d)
 
 -- ---- over any marks: a table that covers its ideal is complete
 
 -- a product of a row is in the ideal
-pub covers-complete : {M : Marking} {n : ℕ} {G : Table} → OfSize n G → Covers M n G → CompleteBy M n G
+pub covers-complete : {M : Division} {n : ℕ} {G : Table} → OfSize n G → Covers M n G → CompleteBy M n G
 covers-complete {M} {n} {G} z c u m i p l f =
     let d = c (times u i 1) (length-times u i 1 ∙ z u m) (inside-up (inside-row m) (times-above u i 1)) in
     (rowAt G (d .0), at-divisor (d .1))

@@ -5,7 +5,7 @@
 --   descent-steps    the steps are at most the degree of q and the number of variables
 --   descent-ended    where a row is found the descent ended at no variable, and else at one of 1 to n
 --   covered-found    a monomial has a Janet divisor exactly where the descent finds a row
---   stepped-in, stepped-make, stepped-rising   the exponents stepped on: those of the group that do not exceed q's, ascending
+--   steppedOn-in, steppedOn-make, steppedOn-rising   the exponents stepped on: those of the group that do not exceed q's, ascending
 --   scan-finds       a scan gives the first Janet divisor, in a table in any order
 --   scan-stops, scan-goes, scan-ends   the three cases of a scan at row r
 --   answers-first    a first divisor is a divisor
@@ -22,17 +22,18 @@ use native.Mathlib.Omega.{arith}
 use lib.Dec.{T, leb, eqb}
 use lib.ListN.{length, drop}
 use lib.Seq.{drop-cons, drop-length}
-use Rattle.terms.specs.Tests.{Tests, tests-same, true-tests, false-tests, pick, keep, keep-in, keep-make, tests-le, tests-eq, tests-or, tests-all}
+use Rattle.checks.specs.Tests.{Tests, pick, keep}
+use Rattle.checks.proofs.TestLaws.{tests-same, true-tests, false-tests, keep-in, keep-make, tests-le, tests-eq, tests-or, tests-all}
 use Rattle.terms.specs.Monomials.{Monomial, Table, _!_, rowAt, OfSize, SameBefore, degree}
 use Rattle.terms.proofs.MonomialLaws.{beyond, within, below-suc, before-suc, before-first}
 use Rattle.terms.proofs.RowsLaws.{member-at, member-index}
-use Rattle.division.specs.Cones.{Marking, DivisorAt, Distinct, Disjoint}
+use Rattle.division.specs.Cones.{Division, DivisorAt, Distinct, Disjoint}
 use Rattle.division.specs.Janet.{InGroup, Multiplicative, JanetDivisor, janetTest, coveredTest}
 use Rattle.division.specs.Scan.{Answers, AnswersFirst, scanFrom, scan, foundTest}
-use Rattle.division.specs.Descent.{Descent, EndedAt, first, last, numbersFrom, exponents, stepped, goesOn, onward, descend, descent}
+use Rattle.division.specs.Descent.{Descent, EndedAt, first, last, numbersFrom, exponents, steppedOn, goesOn, onward, descend, descent}
 use Rattle.division.proofs.JanetLaws.{tests-janet, tests-covered, largest, divisor-at, at-divisor, at-most-one, janet-disjoint}
-use Rattle.division.proofs.NumberLaws.{Rising, LastIs, distinct-in, distinct-make, distinct-rising, keep-rising, last-is, rising-length}
-use Rattle.division.proofs.NumberLaws.{map-in, map-make, numbers-in, numbers-make}
+use Rattle.division.proofs.NumberLaws.{Rising, LastIs, distinct-in, distinct-make, distinct-rising, keep-rising, last-is, rising-length, map-in}
+use Rattle.division.proofs.NumberLaws.{map-make, numbers-in, numbers-make}
 
 -- ---- the exponents stepped on
 
@@ -49,30 +50,30 @@ module _ (G : Table) (q : Monomial) (i : ℕ) (g : List ℕ) where
   unfolding exponents
   exponents-rising = distinct-rising (map (λ (r : ℕ). rowAt G r ! i) g)
 
-  pub stepped-in : (e : ℕ) → List·Memᴰ e (stepped G q i g) → List·Memᴰ e (exponents G i g) × (e ≤ q ! i)
-  unfolding stepped
-  stepped-in e m =
+  pub steppedOn-in : (e : ℕ) → List·Memᴰ e (steppedOn G q i g) → List·Memᴰ e (exponents G i g) × (e ≤ q ! i)
+  unfolding steppedOn
+  steppedOn-in e m =
       let k = keep-in (λ (a : ℕ). leb a (q ! i)) (exponents G i g) e m in
       (k .0, tests-le e (q ! i) .sound (k .1))
 
-  pub stepped-make : (r : ℕ) → List·Memᴰ r g → rowAt G r ! i ≤ q ! i → List·Memᴰ (rowAt G r ! i) (stepped G q i g)
-  unfolding stepped
-  stepped-make r m l =
+  pub steppedOn-make : (r : ℕ) → List·Memᴰ r g → rowAt G r ! i ≤ q ! i → List·Memᴰ (rowAt G r ! i) (steppedOn G q i g)
+  unfolding steppedOn
+  steppedOn-make r m l =
       keep-make (λ (a : ℕ). leb a (q ! i)) (exponents G i g) (rowAt G r ! i) (exponents-make r m) (tests-le (rowAt G r ! i) (q ! i) .complete l)
 
-  pub stepped-rising : Rising (stepped G q i g)
-  unfolding stepped
-  stepped-rising = keep-rising (λ (a : ℕ). leb a (q ! i)) (exponents G i g) exponents-rising
+  pub steppedOn-rising : Rising (steppedOn G q i g)
+  unfolding steppedOn
+  steppedOn-rising = keep-rising (λ (a : ℕ). leb a (q ! i)) (exponents G i g) exponents-rising
 
-  pub stepped-last : LastIs (stepped G q i g) (last (stepped G q i g))
-  stepped-last = last-is (stepped G q i g) stepped-rising
+  pub steppedOn-last : LastIs (steppedOn G q i g) (last (steppedOn G q i g))
+  steppedOn-last = last-is (steppedOn G q i g) steppedOn-rising
 
   -- they are distinct, and none exceeds q's
-  pub stepped-length : length (stepped G q i g) ≤ suc (q ! i)
-  stepped-length =
+  pub steppedOn-length : length (steppedOn G q i g) ≤ suc (q ! i)
+  steppedOn-length =
       omega (
         arith,
-        rising-length (stepped G q i g) 0 (suc (q ! i)) stepped-rising (λ e m. omega arith) (λ e m. omega (arith, stepped-in e m .1)) (omega arith),
+        rising-length (steppedOn G q i g) 0 (suc (q ! i)) steppedOn-rising (λ e m. omega arith) (λ e m. omega (arith, steppedOn-in e m .1)) (omega arith),
       )
 
   pub tests-goesOn : (a : ℕ) → Tests (goesOn G q i g a) ((a ≡ q ! i) ⊎ ((r : ℕ) → List·Memᴰ r g → rowAt G r ! i ≤ a))
@@ -96,24 +97,24 @@ module _ (G : Table) (q : Monomial) (z : OfSize (length q) G) where
     kept : (r : ℕ) → DivisorAt Multiplicative G r q → List·Memᴰ r g
 
   -- a Janet divisor has the last exponent stepped on
-  divisor-last : (i : ℕ) (g : List ℕ) (a : ℕ) → Group i g → LastIs (stepped G q i g) (some a) → (r : ℕ) → DivisorAt Multiplicative G r q → rowAt G r ! i ≡ a
+  divisor-last : (i : ℕ) (g : List ℕ) (a : ℕ) → Group i g → LastIs (steppedOn G q i g) (some a) → (r : ℕ) → DivisorAt Multiplicative G r q → rowAt G r ! i ≡ a
   divisor-last i g a h l r d =
-      let s = stepped-in G q i g a (l .0) in
+      let s = steppedOn-in G q i g a (l .0) in
       let t = exponents-in G q i g a (s .0) in
       let k : List·Memᴰ r g = h .kept r d in
-      let up : rowAt G r ! i ≤ a = l .1 (rowAt G r ! i) (stepped-make G q i g r k (d .cone .divides i)) in
+      let up : rowAt G r ! i ≤ a = l .1 (rowAt G r ! i) (steppedOn-make G q i g r k (d .cone .divides i)) in
       let down : rowAt G (t .0) ! i ≤ rowAt G r ! i =
       largest (at-divisor d) (member-at G [] (t .0) (h .from (t .0) (t .1))) (h .same (t .0) r (t .1) k) (omega (arith, s .1, t .2)) in
       omega (arith, t .2)
 
-  shrink : (i : ℕ) (g : List ℕ) (a : ℕ) → Group i g → LastIs (stepped G q i g) (some a) → T (goesOn G q i g a)
+  shrink : (i : ℕ) (g : List ℕ) (a : ℕ) → Group i g → LastIs (steppedOn G q i g) (some a) → T (goesOn G q i g a)
       → Group (suc i) (keep (λ r. eqb (rowAt G r ! i) a) g)
   shrink i g a h l t = record {
     from = λ r m. h .from r (old r m);
     same = λ r s m k. before-suc i (rowAt G r) (rowAt G s) (h .same r s (old r m) (old s k)) (at r m ∙ sym (at s k));
     full = λ r s m k e. keep-make f g s (h .full r s (old r m) k (λ j b. e j (omega arith)))
         (tests-eq (rowAt G s ! i) a .complete (e i (omega arith) ∙ at r m));
-    under = λ r m. below-suc (λ j. rowAt G r ! j ≤ q ! j) i (h .under r (old r m)) (omega (arith, at r m, stepped-in G q i g a (l .0) .1));
+    under = λ r m. below-suc (λ j. rowAt G r ! j ≤ q ! j) i (h .under r (old r m)) (omega (arith, at r m, steppedOn-in G q i g a (l .0) .1));
     only = λ r m. below-suc (λ j. rowAt G r ! j < q ! j → Multiplicative G (rowAt G r) j) i (h .only r (old r m)) (λ b v k. marked r m b v k);
     kept = λ r d. keep-make f g r (h .kept r d) (tests-eq (rowAt G r ! i) a .complete (divisor-last i g a h l r d));
   }
@@ -138,10 +139,10 @@ module _ (G : Table) (q : Monomial) (z : OfSize (length q) G) where
           (λ o. omega (arith, at r m, o (p .0) (h .full r (p .0) (old r m) (p .1) s)))
           (tests-goesOn G q i g a .sound t)
 
-  onward-answers : (i : ℕ) (g : List ℕ) (o : Option ℕ) (next : List ℕ → Descent) → Group i g → LastIs (stepped G q i g) o
+  onward-answers : (i : ℕ) (g : List ℕ) (o : Option ℕ) (next : List ℕ → Descent) → Group i g → LastIs (steppedOn G q i g) o
       → ((h : List ℕ) → Group (suc i) h → Answers Multiplicative G q (next h .found)) → Answers Multiplicative G q (onward G q i g o next .found)
   unfolding onward
-  onward-answers i g none next h l c = λ r d. l (rowAt G r ! i) (stepped-make G q i g r (h .kept r d) (d .cone .divides i))
+  onward-answers i g none next h l c = λ r d. l (rowAt G r ! i) (steppedOn-make G q i g r (h .kept r d) (d .cone .divides i))
   onward-answers i g (some a) next h l c = go (goesOn G q i g a) (tests-goesOn G q i g a) (λ t. t)
     where
       smaller : List ℕ
@@ -149,8 +150,8 @@ module _ (G : Table) (q : Monomial) (z : OfSize (length q) G) where
 
       go : (b : Bool) → Tests b ((a ≡ q ! i) ⊎ ((r : ℕ) → List·Memᴰ r g → rowAt G r ! i ≤ a)) → (T b → T (goesOn G q i g a)) →
           Answers Multiplicative G q (pick {A = Descent} b
-          (record { found = next smaller .found; steps = length (stepped G q i g) + next smaller .steps; ended = next smaller .ended })
-          (record { found = none; steps = length (stepped G q i g); ended = i }) .found)
+          (record { found = next smaller .found; steps = length (steppedOn G q i g) + next smaller .steps; ended = next smaller .ended })
+          (record { found = none; steps = length (steppedOn G q i g); ended = i }) .found)
       go true s t = c smaller (shrink i g a h l (t tt))
       go false s t = λ r d. s .complete (
           let e : rowAt G r ! i ≡ a = divisor-last i g a h l r d in
@@ -173,7 +174,8 @@ module _ (G : Table) (q : Monomial) (z : OfSize (length q) G) where
         };
       }
   descend-answers (suc k) i g h e =
-      onward-answers i g (last (stepped G q i g)) (λ x. descend G q k (suc i) x) h (stepped-last G q i g) (λ x y. descend-answers k (suc i) x y (omega arith))
+      onward-answers i g (last (steppedOn G q i g)) (λ x. descend G q k (suc i) x) h (steppedOn-last G q i g)
+      (λ x y. descend-answers k (suc i) x y (omega arith))
 
   -- all rows are the group at variable 1
   start : Group 1 (numbersFrom 0 (length G))
@@ -209,16 +211,16 @@ onward-steps G q i g (some a) next b h = go (goesOn G q i g a)
     smaller = keep (λ r. eqb (rowAt G r ! i) a) g
 
     go : (c : Bool) → pick {A = Descent} c
-        (record { found = next smaller .found; steps = length (stepped G q i g) + next smaller .steps; ended = next smaller .ended })
-        (record { found = none; steps = length (stepped G q i g); ended = i }) .steps ≤ suc (q ! i) + b
-    go true = omega (arith, stepped-length G q i g, h smaller)
-    go false = omega (arith, stepped-length G q i g)
+        (record { found = next smaller .found; steps = length (steppedOn G q i g) + next smaller .steps; ended = next smaller .ended })
+        (record { found = none; steps = length (steppedOn G q i g); ended = i }) .steps ≤ suc (q ! i) + b
+    go true = omega (arith, steppedOn-length G q i g, h smaller)
+    go false = omega (arith, steppedOn-length G q i g)
 
 descend-steps : (G : Table) (q : Monomial) (k i : ℕ) (g : List ℕ) → descend G q k i g .steps ≤ span k i q
 unfolding descend span
 descend-steps G q zero i g = omega arith
 descend-steps G q (suc k) i g =
-    onward-steps G q i g (last (stepped G q i g)) (λ h. descend G q k (suc i) h) (span k (suc i) q) (λ h. descend-steps G q k (suc i) h)
+    onward-steps G q i g (last (steppedOn G q i g)) (λ h. descend G q k (suc i) h) (span k (suc i) q) (λ h. descend-steps G q k (suc i) h)
 
 span-cons : (k i a : ℕ) (q : Monomial) → span k (suc (suc i)) (a ∷ q) ≡ span k (suc i) q
 unfolding span
@@ -279,11 +281,11 @@ scan-finds G q = scan-rest G q (length G) 0 (omega arith) (λ s l. absurd (not-s
 
 -- ---- one answer
 
-pub answers-first : (M : Marking) (G : Table) (q : Monomial) (o : Option ℕ) → AnswersFirst M G q o → Answers M G q o
+pub answers-first : (M : Division) (G : Table) (q : Monomial) (o : Option ℕ) → AnswersFirst M G q o → Answers M G q o
 answers-first M G q none h = h
 answers-first M G q (some r) h = h .divisor
 
-pub first-unique : (M : Marking) (G : Table) (q : Monomial) (o p : Option ℕ) → AnswersFirst M G q o → AnswersFirst M G q p → o ≡ p
+pub first-unique : (M : Division) (G : Table) (q : Monomial) (o p : Option ℕ) → AnswersFirst M G q o → AnswersFirst M G q p → o ≡ p
 first-unique M G q none none h k = refl
 first-unique M G q none (some s) h k = absurd (h s (k .divisor))
 first-unique M G q (some r) none h k = absurd (k r (h .divisor))
@@ -291,7 +293,7 @@ first-unique M G q (some r) (some s) h k = by-cases (decLt r s)
     (λ l. absurd (k .first r l (h .divisor)))
     (λ g. by-cases (decLt s r) (λ l. absurd (h .first s l (k .divisor))) (λ f. let e : r ≡ s = omega arith in ap some e))
 
-pub answers-unique : {M : Marking} {G : Table} → Disjoint M G → (q : Monomial) (o p : Option ℕ) → Answers M G q o → Answers M G q p → o ≡ p
+pub answers-unique : {M : Division} {G : Table} → Disjoint M G → (q : Monomial) (o p : Option ℕ) → Answers M G q o → Answers M G q p → o ≡ p
 answers-unique f q none none h k = refl
 answers-unique f q none (some s) h k = absurd (h s k)
 answers-unique f q (some r) none h k = absurd (k r h)
@@ -315,7 +317,7 @@ ended-wider : (o : Option ℕ) (i j e : ℕ) → EndedAt o (suc i) j e → Ended
 ended-wider none i j e h = (omega (arith, h .0), h .1)
 ended-wider (some r) i j e h = h
 
-onward-ended : (G : Table) (q : Monomial) (i j : ℕ) (g : List ℕ) (o : Option ℕ) (next : List ℕ → Descent) → i < j → LastIs (stepped G q i g) o
+onward-ended : (G : Table) (q : Monomial) (i j : ℕ) (g : List ℕ) (o : Option ℕ) (next : List ℕ → Descent) → i < j → LastIs (steppedOn G q i g) o
     → ((h : List ℕ) (r : ℕ) → List·Memᴰ r h → EndedAt (next h .found) (suc i) j (next h .ended))
     → EndedAt (onward G q i g o next .found) i j (onward G q i g o next .ended)
 unfolding onward
@@ -327,13 +329,13 @@ onward-ended G q i j g (some a) next b l c = go (goesOn G q i g a)
 
     result : Bool → Descent
     result c = pick c
-        (record { found = next smaller .found; steps = length (stepped G q i g) + next smaller .steps; ended = next smaller .ended })
-        (record { found = none; steps = length (stepped G q i g); ended = i })
+        (record { found = next smaller .found; steps = length (steppedOn G q i g) + next smaller .steps; ended = next smaller .ended })
+        (record { found = none; steps = length (steppedOn G q i g); ended = i })
 
     -- the last exponent stepped on is that of a row, which stays
     deeper : EndedAt (next smaller .found) (suc i) j (next smaller .ended)
     deeper =
-        let t = exponents-in G q i g a (stepped-in G q i g a (l .0) .0) in
+        let t = exponents-in G q i g a (steppedOn-in G q i g a (l .0) .0) in
         c smaller (t .0) (keep-make (λ (r : ℕ). eqb (rowAt G r ! i) a) g (t .0) (t .1) (tests-eq (rowAt G (t .0) ! i) a .complete (sym (t .2))))
 
     go : (c : Bool) → EndedAt (result c .found) i j (result c .ended)
@@ -347,7 +349,7 @@ descend-ended G q zero i [] r m = absurd (List·Memᴰ·not-nil m)
 descend-ended G q zero i (s ∷ g) r m = refl
 descend-ended G q (suc k) i g r m =
     let e : suc i + k ≡ i + suc k = omega arith in
-    onward-ended G q i (i + suc k) g (last (stepped G q i g)) (λ h. descend G q k (suc i) h) (omega arith) (stepped-last G q i g)
+    onward-ended G q i (i + suc k) g (last (steppedOn G q i g)) (λ h. descend G q k (suc i) h) (omega arith) (steppedOn-last G q i g)
     (λ h s t. subst (λ (j : ℕ). EndedAt (descend G q k (suc i) h .found) (suc i) j (descend G q k (suc i) h .ended)) e (descend-ended G q k (suc i) h s t))
 
 -- in a table with rows

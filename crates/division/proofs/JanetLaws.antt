@@ -19,17 +19,18 @@ use native.Mathlib.Nat.{le-of-suc-le-suc, le-antisymm}
 use native.Mathlib.Decide.{decLe, decLt, ℕ-discrete}
 use native.Mathlib.Omega.{arith}
 use lib.ListN.{length}
-use Rattle.terms.specs.Tests.{Tests, decide, tests-as, tests-le, tests-lt, tests-eq, tests-and, tests-not, tests-implies, tests-each}
-use Rattle.terms.specs.Tests.{tests-all, tests-any, keep-in, keep-make}
+use Rattle.checks.specs.Tests.{Tests}
+use Rattle.checks.proofs.TestLaws.{decide, tests-as, tests-le, tests-lt, tests-eq, tests-and, tests-not, tests-implies, tests-each, tests-all, tests-any}
+use Rattle.checks.proofs.TestLaws.{keep-in, keep-make}
 use Rattle.terms.specs.Monomials.{Monomial, Table, _!_, _∈_, rowAt, OfSize, SameBefore, times}
 use Rattle.terms.specs.Order.{Precedes, Ascending}
 use Rattle.terms.proofs.MonomialLaws.{beyond, within, positive, before-zero, before-suc, same-all}
 use Rattle.terms.proofs.IdealLaws.{tests-divides}
 use Rattle.terms.proofs.OrderLaws.{precedes-irreflexive, ascending-between}
 use Rattle.terms.proofs.RowsLaws.{member-at, member-index}
-use Rattle.division.specs.Cones.{Marking, Cone, Divisor, DivisorAt, Distinct, Disjoint}
-use Rattle.division.specs.Janet.{InGroup, group, Multiplicative, JanetDivisor, Complete}
-use Rattle.division.specs.Janet.{sameBeforeTest, multiplicativeTest, janetTest, coveredTest, completeTest}
+use Rattle.division.specs.Cones.{Division, Cone, Divisor, DivisorAt, Distinct, Disjoint}
+use Rattle.division.specs.Janet.{InGroup, group, Multiplicative, JanetDivisor, Complete, sameBeforeTest, multiplicativeTest, janetTest, coveredTest}
+use Rattle.division.specs.Janet.{completeTest}
 
 -- ---- the tests
 
@@ -105,17 +106,17 @@ multiplicative-none {n} {G} z u (suc i) f = multiplicative-past z u (suc i) (by-
 
 -- ---- divisors by row and by row number
 
-pub divisor-at : {M : Marking} {G : Table} {u q : Monomial} → Divisor M G u q → (r : ℕ) × DivisorAt M G r q × (rowAt G r ≡ u)
+pub divisor-at : {M : Division} {G : Table} {u q : Monomial} → Divisor M G u q → (r : ℕ) × DivisorAt M G r q × (rowAt G r ≡ u)
 divisor-at {M} {G} {u} {q} d =
     let p = member-index G [] u (d .member) in
     (p .0, record { within = p .1; cone = subst (λ (w : Monomial). Cone (M G w) w q) (sym (p .2)) (d .cone) }, p .2)
 
-pub at-divisor : {M : Marking} {G : Table} {r : ℕ} {q : Monomial} → DivisorAt M G r q → Divisor M G (rowAt G r) q
+pub at-divisor : {M : Division} {G : Table} {r : ℕ} {q : Monomial} → DivisorAt M G r q → Divisor M G (rowAt G r) q
 at-divisor {G = G} {r = r} d = record { member = member-at G [] r (d .within); cone = d .cone }
 
 -- ---- disjoint cones, over any marks
 
-pub at-most-one : {M : Marking} {G : Table} {r s : ℕ} {q : Monomial} → Disjoint M G → DivisorAt M G r q → DivisorAt M G s q → r ≡ s
+pub at-most-one : {M : Division} {G : Table} {r s : ℕ} {q : Monomial} → Disjoint M G → DivisorAt M G r q → DivisorAt M G s q → r ≡ s
 at-most-one {r = r} {s = s} {q = q} f d e = by-cases (ℕ-discrete r s) (λ p. p) (λ g. absurd (f r s g q d e))
 
 -- ---- one Janet divisor

@@ -18,7 +18,8 @@ use native.Mathlib.Decide.{ℕ-discrete}
 use native.Mathlib.Omega.{arith}
 use lib.Dec.{ltb, eqb}
 use lib.ListN.{length}
-use Rattle.terms.specs.Tests.{Tests, pick, keep, keep-in, tests-lt, tests-eq}
+use Rattle.checks.specs.Tests.{Tests, pick, keep}
+use Rattle.checks.proofs.TestLaws.{keep-in, tests-lt, tests-eq}
 use Rattle.division.specs.Descent.{insert, distinct, last, numbersFrom}
 
 -- ---- rising lists

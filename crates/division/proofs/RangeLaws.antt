@@ -22,16 +22,18 @@ use native.Mathlib.Omega.{arith}
 use borrow.Author.Tests.{le-ltb, lt-ltb, le-leb, eq-eqb, ne-eqb}
 use lib.Dec.{leb, eqb}
 use lib.ListN.{length}
-use Rattle.terms.specs.Tests.{all, keep, tests-true, tests-false}
+use Rattle.checks.specs.Tests.{all, keep}
+use Rattle.checks.proofs.TestLaws.{tests-true, tests-false}
 use Rattle.terms.specs.Monomials.{Monomial, Table, _!_, rowAt, SameBefore}
 use Rattle.terms.specs.Order.{Precedes, Ascending}
 use Rattle.terms.proofs.MonomialLaws.{before-suc, before-first}
 use Rattle.terms.proofs.OrderLaws.{ascending-between}
-use Rattle.division.specs.Descent.{insert, distinct, last, numbersFrom, exponents, stepped, goesOn, onward, descend}
+use Rattle.division.specs.Descent.{insert, distinct, last, numbersFrom, exponents, steppedOn, goesOn, onward, descend}
 use Rattle.division.proofs.NumberLaws.{distinct-in, map-in, numbers-in}
-use Rattle.division.proofs.DescentLaws.{exponents-in, stepped-in, stepped-make, tests-goesOn}
-use Rattle.division.specs.Ranges.{range, GroupRange, FirstLarger, withSteps, foundRow}
-use Rattle.division.specs.declared.finding.Found.the-variants.{Row, Nothing}
+use Rattle.division.proofs.DescentLaws.{exponents-in, steppedOn-in, steppedOn-make, tests-goesOn}
+use Rattle.division.specs.Ranges.{range, GroupRange, FirstLarger, withSteps}
+use Rattle.division.specs.Scan.{foundRow}
+use Rattle.division.specs.declared.Found.the-variants.{Row, Nothing}
 use Rattle.terms.specs.declared.RowNumber.{RowNumber}
 
 -- ---- the distinct numbers of a list
@@ -96,9 +98,9 @@ last-in b [] = (b, refl, List·Memᴰ·head refl)
 last-in b (d ∷ l) = let p = last-in d l in (p .0, p .1, List·Memᴰ·tail (p .2))
 
 module _ (G : Table) (q : Monomial) (i : ℕ) where
-  pub stepped-none : (g : List ℕ) → ((r : ℕ) → List·Memᴰ r g → q ! i < rowAt G r ! i) → stepped G q i g ≡ []
-  stepped-none g h = nothing-in (stepped G q i g) (λ x m.
-      let s = stepped-in G q i g x m in
+  pub steppedOn-none : (g : List ℕ) → ((r : ℕ) → List·Memᴰ r g → q ! i < rowAt G r ! i) → steppedOn G q i g ≡ []
+  steppedOn-none g h = nothing-in (steppedOn G q i g) (λ x m.
+      let s = steppedOn-in G q i g x m in
       let p = exponents-in G q i g x (s .0) in
       omega (arith, s .1, p .2, h (p .0) (p .1)))
 
@@ -107,15 +109,15 @@ module _ (G : Table) (q : Monomial) (i : ℕ) where
   pub descend-none : (k : ℕ) (g : List ℕ) → ((r : ℕ) → List·Memᴰ r g → q ! i < rowAt G r ! i)
       → descend G q (suc k) i g ≡ record { found = none; steps = 0; ended = i }
   unfolding descend onward last
-  descend-none k g h = rw (stepped-none g h)
+  descend-none k g h = rw (steppedOn-none g h)
 
-  descend-on : (k : ℕ) (g : List ℕ) (c : ℕ) → last (stepped G q i g) ≡ some c → goesOn G q i g c ≡ true
-      → descend G q (suc k) i g ≡ withSteps (length (stepped G q i g)) (descend G q k (suc i) (keep (λ r. eqb (rowAt G r ! i) c) g))
+  descend-on : (k : ℕ) (g : List ℕ) (c : ℕ) → last (steppedOn G q i g) ≡ some c → goesOn G q i g c ≡ true
+      → descend G q (suc k) i g ≡ withSteps (length (steppedOn G q i g)) (descend G q k (suc i) (keep (λ r. eqb (rowAt G r ! i) c) g))
   unfolding descend onward
   descend-on k g c e t = rw (e, t)
 
-  descend-ends : (k : ℕ) (g : List ℕ) (c : ℕ) → last (stepped G q i g) ≡ some c → goesOn G q i g c ≡ false
-      → descend G q (suc k) i g ≡ record { found = none; steps = length (stepped G q i g); ended = i }
+  descend-ends : (k : ℕ) (g : List ℕ) (c : ℕ) → last (steppedOn G q i g) ≡ some c → goesOn G q i g c ≡ false
+      → descend G q (suc k) i g ≡ record { found = none; steps = length (steppedOn G q i g); ended = i }
   unfolding descend onward
   descend-ends k g c e t = rw (e, t)
 
@@ -124,9 +126,9 @@ module _ (G : Table) (q : Monomial) (i : ℕ) where
       (share : (x : ℕ) → List·Memᴰ x (r ∷ g) → rowAt G x ! i ≡ a)
       (exceed : (x : ℕ) → List·Memᴰ x above → a < rowAt G x ! i)
       (under : a ≤ q ! i) where
-    stepped-parts : stepped G q i ((r ∷ g) ++ above) ≡ a ∷ stepped G q i above
-    unfolding stepped exponents
-    stepped-parts = rw (distinct-parts (λ s. rowAt G s ! i) a above exceed r g share, le-leb a (q ! i) under)
+    steppedOn-parts : steppedOn G q i ((r ∷ g) ++ above) ≡ a ∷ steppedOn G q i above
+    unfolding steppedOn exponents
+    steppedOn-parts = rw (distinct-parts (λ s. rowAt G s ! i) a above exceed r g share, le-leb a (q ! i) under)
 
     goesOn-above : (c : ℕ) → a ≤ c → goesOn G q i ((r ∷ g) ++ above) c ≡ goesOn G q i above c
     unfolding goesOn
@@ -137,14 +139,14 @@ module _ (G : Table) (q : Monomial) (i : ℕ) where
     pub descend-next : (k x : ℕ) → List·Memᴰ x above → rowAt G x ! i ≤ q ! i
         → descend G q (suc k) i ((r ∷ g) ++ above) ≡ withSteps 1 (descend G q (suc k) i above)
     unfolding last
-    descend-next k x m l = by-steps (stepped G q i above) refl
+    descend-next k x m l = by-steps (steppedOn G q i above) refl
       where
-        by-goesOn : (c : ℕ) → a < c → last (stepped G q i ((r ∷ g) ++ above)) ≡ some c → last (stepped G q i above) ≡ some c
+        by-goesOn : (c : ℕ) → a < c → last (steppedOn G q i ((r ∷ g) ++ above)) ≡ some c → last (steppedOn G q i above) ≡ some c
             → (b : Bool) → goesOn G q i above c ≡ b → descend G q (suc k) i ((r ∷ g) ++ above) ≡ withSteps 1 (descend G q (suc k) i above)
         by-goesOn c less e f true t =
-            let n : length (stepped G q i ((r ∷ g) ++ above)) ≡ suc (length (stepped G q i above)) = ap length stepped-parts in
+            let n : length (steppedOn G q i ((r ∷ g) ++ above)) ≡ suc (length (steppedOn G q i above)) = ap length steppedOn-parts in
             let d = descend G q k (suc i) (keep (λ s. eqb (rowAt G s ! i) c) above) in
-            let z : suc (length (stepped G q i above)) + d .steps ≡ 1 + (length (stepped G q i above) + d .steps) = omega arith in
+            let z : suc (length (steppedOn G q i above)) + d .steps ≡ 1 + (length (steppedOn G q i above) + d .steps) = omega arith in
             rw (
               descend-on k ((r ∷ g) ++ above) c e (goesOn-above c (omega arith) ∙ t),
               descend-on k above c f t,
@@ -153,23 +155,23 @@ module _ (G : Table) (q : Monomial) (i : ℕ) where
               z,
             )
         by-goesOn c less e f false t =
-            let n : length (stepped G q i ((r ∷ g) ++ above)) ≡ 1 + length (stepped G q i above) = ap length stepped-parts ∙ omega arith in
+            let n : length (steppedOn G q i ((r ∷ g) ++ above)) ≡ 1 + length (steppedOn G q i above) = ap length steppedOn-parts ∙ omega arith in
             rw (descend-ends k ((r ∷ g) ++ above) c e (goesOn-above c (omega arith) ∙ t), descend-ends k above c f t, n)
 
-        by-steps : (s : List ℕ) → stepped G q i above ≡ s → descend G q (suc k) i ((r ∷ g) ++ above) ≡ withSteps 1 (descend G q (suc k) i above)
-        by-steps [] e = absurd (List·Memᴰ·not-nil (subst (λ (s : List ℕ). List·Memᴰ (rowAt G x ! i) s) e (stepped-make G q i above x m l)))
+        by-steps : (s : List ℕ) → steppedOn G q i above ≡ s → descend G q (suc k) i ((r ∷ g) ++ above) ≡ withSteps 1 (descend G q (suc k) i above)
+        by-steps [] e = absurd (List·Memᴰ·not-nil (subst (λ (s : List ℕ). List·Memᴰ (rowAt G x ! i) s) e (steppedOn-make G q i above x m l)))
         by-steps (b ∷ s) e =
             let p = last-in b s in
-            let w = exponents-in G q i above (p .0) (stepped-in G q i above (p .0) (subst (λ (z : List ℕ). List·Memᴰ (p .0) z) (sym e) (p .2)) .0) in
-            by-goesOn (p .0) (omega (arith, w .2, exceed (w .0) (w .1))) (ap last stepped-parts ∙ ap (λ (z : List ℕ). last (a ∷ z)) e ∙ p .1)
+            let w = exponents-in G q i above (p .0) (steppedOn-in G q i above (p .0) (subst (λ (z : List ℕ). List·Memᴰ (p .0) z) (sym e) (p .2)) .0) in
+            by-goesOn (p .0) (omega (arith, w .2, exceed (w .0) (w .1))) (ap last steppedOn-parts ∙ ap (λ (z : List ℕ). last (a ∷ z)) e ∙ p .1)
             (ap last e ∙ p .1) (goesOn G q i above (p .0)) refl
 
     -- the rows above exceed q's exponent: a is the only exponent stepped on
     module _ (beyond : (x : ℕ) → List·Memᴰ x above → q ! i < rowAt G x ! i) where
-      one-step : stepped G q i ((r ∷ g) ++ above) ≡ a ∷ []
-      one-step = stepped-parts ∙ ap (λ (l : List ℕ). a ∷ l) (stepped-none above beyond)
+      one-step : steppedOn G q i ((r ∷ g) ++ above) ≡ a ∷ []
+      one-step = steppedOn-parts ∙ ap (λ (l : List ℕ). a ∷ l) (steppedOn-none above beyond)
 
-      last-step : last (stepped G q i ((r ∷ g) ++ above)) ≡ some a
+      last-step : last (steppedOn G q i ((r ∷ g) ++ above)) ≡ some a
       unfolding last
       last-step = ap last one-step
 

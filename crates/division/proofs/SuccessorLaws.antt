@@ -1,74 +1,107 @@
--- Laws of the marks of a row from those of the next.
+-- The marks of a row from those of the next row in the order of rows (rule 2).
 --
---   power-small, power-double, all-shifted   the powers that the code meets are small
---   stepped-marks, stepped-small   what the code computes from the next row's marks
---   differs-less, first-differing  the two rows at their first difference
---   next-marks             what the code gives are the marks, where no row stands between the two
---   successor-marks, successor-after   the same of a row and the next in an ascending table
-use mathlib.Core.Path.{_≡_, sym, ap, _∙_, subst}
-use mathlib.Core.Logic.{inl, inr, by-cases}
-use Prim.Native.Nat.{ℕ, suc, _+_, _*_, _-_, _%_, _^_, _≤_, _<_}
-use native.Mathlib.Nat.{le-of-suc-le-suc, two-pow-succ, mod-eq-of-lt, mod-lt}
-use native.Mathlib.Decide.{decLt}
+--   highest-marks          in a table in any order: a row that none comes after has all marks
+--   next-behind, -at, -before   of a row with a next row in the order of rows: with k the first variable where they differ, it has all marks
+--                          behind k, none at k, and before k those of the next row
+--   marks-highest, marks-next   the same of the bytes
+--   last-marks, marks-last, marks-successor   the same of an ascending table, whose next row stands next
+use mathlib.Core.Path.{_≡_, sym, _∙_, subst}
+use mathlib.Core.Bool.{Bool, true, false}
+use mathlib.Core.List.{[]}
+use mathlib.Core.Logic.{⊎-elim, by-cases}
+use Prim.Native.Nat.{ℕ, suc, _+_, _%_, _^_, _≤_, _<_}
+use native.Mathlib.Nat.{eq-or-lt-of-le}
+use native.Mathlib.Decide.{decLe}
 use native.Mathlib.Omega.{arith}
-use lib.Bits.{bitAnd, and-mask}
-use lib.Pow.{pow-mono, pow-pos}
 use lib.ListN.{length}
-use Rattle.terms.specs.Monomials.{Monomial, Table, _!_, _∈_, rowAt}
+use Rattle.checks.proofs.TestLaws.{tests-as, tests-same, tests-true, tests-false}
+use Rattle.terms.specs.Monomials.{Monomial, Table, _!_, _∈_, rowAt, SameBefore}
 use Rattle.terms.specs.Order.{Precedes, Ascending}
-use Rattle.terms.proofs.OrderLaws.{precedes-irreflexive}
-use Rattle.terms.proofs.LoopLaws.{not-before}
-use Rattle.division.specs.Janet.{marksOf}
-use Rattle.division.specs.Ordering.{NotAfter}
-use Rattle.division.specs.Successor.{Differing, NextMarks}
-use Rattle.division.proofs.MarksLaws.{marks-next, marks-successor}
+use Rattle.terms.proofs.OrderLaws.{precedes-irreflexive, precedes-trans, ascending-between}
+use Rattle.terms.proofs.RowsLaws.{member-at, member-index}
+use Rattle.division.specs.Janet.{InGroup, multiplicativeTest, marksByte, marksOf}
+use Rattle.division.proofs.JanetLaws.{tests-multiplicative, multiplicative-same}
+use Rattle.division.proofs.MarkByteLaws.{marks-mod, marks-same, marks-behind, marks-all}
 
--- ---- marks_last, marks_by_next
+-- ---- the marks of a row by the next row in the order of rows, in a table in any order
 
-pub power-small : (n : ℕ) → n ≤ 6 → 2 ^ n ≤ 64
-power-small n h = pow-mono {i = n} {j = 6} h
+-- A row v of u's group at i that is above u there comes after u. So where no row comes after u, it has all marks. Where w is the next row in the
+-- order of rows and they differ first at k: behind k the row v equals u at k, so it comes before w, but no row stands between u and w. At k the row
+-- w is in u's group and above it. Before k the groups of u and w are the same, and so are their exponents.
 
-pub all-shifted : (n : ℕ) → n ≤ 6 → 1 * 2 ^ n % 256 ≡ 2 ^ n
-all-shifted n h =
-    let e : 1 * 2 ^ n ≡ 2 ^ n = omega arith in
-    ap (λ (x : ℕ). x % 256) e ∙ mod-eq-of-lt (omega (arith, power-small n h))
+above-after : {G : Table} {u v : Monomial} {i : ℕ} → InGroup G u i v → u ! i < v ! i → Precedes u v
+above-after {i = i} g h = record { at = i; same = λ j t. sym (g .same j t); less = h }
 
--- the power of a variable before the last, doubled, is at most that of n
-pub power-double : (n i : ℕ) → i < n → n ≤ 6 → (2 * 2 ^ i ≤ 2 ^ n) × (2 ^ n ≤ 64)
-power-double n i l h = (omega (arith, two-pow-succ i, pow-mono {i = suc i} {j = n} l), power-small n h)
+module _ (G : Table) (u : Monomial) where
+  pub highest-marks : ((v : Monomial) → v ∈ G → Precedes u v → ⊥) → (i : ℕ) → multiplicativeTest G u i ≡ true
+  highest-marks none i = sym (tests-true (tests-multiplicative G u i)
+      (λ v g. by-cases (decLe (v ! i) (u ! i)) (λ l. l) (λ o. absurd (none v (g .member) (above-after g (omega arith))))))
 
--- what the code computes of the next row's marks m at the variable suc i
-pub stepped-marks : (n i m all p : ℕ) → i < n → p ≡ 2 ^ i → all + 1 ≡ 2 ^ n → bitAnd m (p - 1) + (all + 1 - 2 * p) + 2 ^ suc i ≡ m % 2 ^ i + 2 ^ n
-stepped-marks n i m all p l e f =
-    let b : bitAnd m (p - 1) ≡ m % 2 ^ i = ap (λ (x : ℕ). bitAnd m (x - 1)) e ∙ and-mask m i in
-    omega (arith, two-pow-succ i, pow-mono {i = suc i} {j = n} l)
+  module _ (w : Monomial) (member : w ∈ G) (none : (v : Monomial) → v ∈ G → Precedes u v → Precedes v w → ⊥)
+      (k : ℕ) (same : SameBefore k u w) (less : u ! k < w ! k) where
+    pub next-behind : (i : ℕ) → k < i → multiplicativeTest G u i ≡ true
+    next-behind i h = sym (tests-true (tests-multiplicative G u i)
+        (λ v g. by-cases (decLe (v ! i) (u ! i)) (λ l. l) (λ o. absurd (none v (g .member) (above-after g (omega arith)) (before-w v g)))))
+      where
+        before-w : (v : Monomial) → InGroup G u i v → Precedes v w
+        before-w v g = record { at = k; same = λ j t. g .same j (omega arith) ∙ same j t; less = omega (arith, g .same k h) }
 
-pub stepped-small : (n i m all p : ℕ) → i < n → n ≤ 6 → p ≡ 2 ^ i → all + 1 ≡ 2 ^ n → bitAnd m (p - 1) + (all + 1 - 2 * p) < 64
-stepped-small n i m all p l h e f =
-    omega (arith, stepped-marks n i m all p l e f, mod-lt m (pow-pos i), two-pow-succ i, pow-mono {i = suc i} {j = n} l, power-small n h)
+    pub next-at : multiplicativeTest G u k ≡ false
+    next-at = sym (tests-false (tests-multiplicative G u k) (λ m. omega (arith, m w (record { member = member; same = λ j t. sym (same j t) }))))
 
--- at the first difference the row that is not after the other is the smaller
-pub differs-less : (u w : Monomial) (i : ℕ) → NotAfter u w → ((j : ℕ) → j ≤ i → u ! j ≡ w ! j) → (u ! suc i ≡ w ! suc i → ⊥) → u ! suc i < w ! suc i
-differs-less u w i (inl e) same g = absurd (g (ap (λ (x : Monomial). x ! suc i) e))
-differs-less u w i (inr p) same g = by-cases (decLt (u ! suc i) (w ! suc i)) (λ l. l) (λ o. absurd (not-before u w i same (omega (arith, g)) p))
+    pub next-before : (i : ℕ) → i < k → multiplicativeTest G u i ≡ multiplicativeTest G w i
+    next-before i h = tests-same (multiplicativeTest G u i) (multiplicativeTest G w i)
+        (tests-multiplicative G u i)
+        (tests-as (tests-multiplicative G w i)
+        (multiplicative-same G w u i (λ j t. sym (same j (omega arith))) (sym (same i h)))
+        (multiplicative-same G u w i (λ j t. same j (omega arith)) (same i h)))
 
-pub first-differing : (n : ℕ) (u w : Monomial) (m all p i : ℕ) → i < n → p ≡ 2 ^ i → all + 1 ≡ 2 ^ n → ((j : ℕ) → j ≤ i → u ! j ≡ w ! j)
-    → u ! suc i < w ! suc i → Differing n u w m (bitAnd m (p - 1) + (all + 1 - 2 * p)) i
-first-differing n u w m all p i l e f same h =
-    record { variable = l; same = λ j t. same j (le-of-suc-le-suc t); less = h; marks = stepped-marks n i m all p l e f }
+module _ (n : ℕ) (G : Table) (u : Monomial) where
+  -- the byte of the last row
+  pub marks-highest : ((v : Monomial) → v ∈ G → Precedes u v → ⊥) → marksOf n G u + 1 ≡ 2 ^ n
+  unfolding marksOf
+  marks-highest none = marks-all n (multiplicativeTest G u) (λ i p l. highest-marks G u none i)
 
--- ---- they are the marks
+  -- the byte of a row by that of the next: its bits before the variable suc j where they first differ, and all bits behind it
+  pub marks-next : (w : Monomial) → w ∈ G → ((v : Monomial) → v ∈ G → Precedes u v → Precedes v w → ⊥) → (j : ℕ) → j < n
+      → SameBefore (suc j) u w → u ! suc j < w ! suc j → marksOf n G u + 2 ^ suc j ≡ marksOf n G w % 2 ^ j + 2 ^ n
+  unfolding marksOf
+  marks-next w m none j h s p =
+      let f : ℕ → Bool = multiplicativeTest G u in
+      let g : ℕ → Bool = multiplicativeTest G w in
+      let e : marksByte n g % 2 ^ j ≡ marksByte j f =
+      marks-mod g n j (omega arith) ∙ sym (marks-same j f g (λ i o t. next-before G u w m none (suc j) s p i (omega arith))) in
+      omega (arith, marks-behind n j f h (next-at G u w m none (suc j) s p) (λ i o t. next-behind G u w m none (suc j) s p i o))
 
-pub next-marks : (n : ℕ) (G : Table) (u w : Monomial) → w ∈ G → ((v : Monomial) → v ∈ G → Precedes u v → Precedes v w → ⊥)
-    → (r : ℕ) → NextMarks n u w (marksOf n G w) r → r ≡ marksOf n G u
-next-marks n G u w m none r (inl e) = e .1 ∙ ap (marksOf n G) (sym (e .0))
-next-marks n G u w m none r (inr d) = omega (arith, d .1 .marks, marks-next n G u w m none (d .0) (d .1 .variable) (d .1 .same) (d .1 .less))
+-- ---- an ascending table: no row comes after the last, and none stands between a row and the next
 
-module _ (n : ℕ) (G : Table) (a : Ascending G) (k : ℕ) (l : suc k < length G) where
-  pub successor-after : NotAfter (rowAt G k) (rowAt G (suc k))
-  successor-after = inr (a k l)
+module _ (G : Table) (a : Ascending G) where
+  not-back : (s r : ℕ) → s ≤ r → r < length G → Precedes (rowAt G r) (rowAt G s) → ⊥
+  not-back s r l h p = ⊎-elim
+      (λ e. precedes-irreflexive (rowAt G r) (subst (λ (x : ℕ). Precedes (rowAt G r) (rowAt G x)) e p))
+      (λ o. precedes-irreflexive (rowAt G r) (precedes-trans p (ascending-between G a s r o h)))
+      (eq-or-lt-of-le l)
 
-  pub successor-marks : (m r : ℕ) → m ≡ marksOf n G (rowAt G (suc k)) → NextMarks n (rowAt G k) (rowAt G (suc k)) m r → r ≡ marksOf n G (rowAt G k)
-  successor-marks m r e (inl h) = absurd (precedes-irreflexive (rowAt G (suc k)) (subst (λ (x : Monomial). Precedes x (rowAt G (suc k))) (h .0) (a k l)))
-  successor-marks m r e (inr d) =
-      omega (arith, d .1 .marks, ap (λ (x : ℕ). x % 2 ^ (d .0)) e, marks-successor n G a k l (d .0) (d .1 .variable) (d .1 .same) (d .1 .less))
+  module _ (r : ℕ) where
+    none-after : suc r ≡ length G → (v : Monomial) → v ∈ G → Precedes (rowAt G r) v → ⊥
+    none-after e v m p =
+        let i = member-index G [] v m in
+        not-back (i .0) r (omega (arith, i .1)) (omega arith) (subst (λ (x : Monomial). Precedes (rowAt G r) x) (sym (i .2)) p)
+
+    none-between : suc r < length G → (v : Monomial) → v ∈ G → Precedes (rowAt G r) v → Precedes v (rowAt G (suc r)) → ⊥
+    none-between l v m p q =
+        let i = member-index G [] v m in
+        by-cases (decLe (i .0) r)
+        (λ h. not-back (i .0) r h (omega arith) (subst (λ (x : Monomial). Precedes (rowAt G r) x) (sym (i .2)) p))
+        (λ g. not-back (suc r) (i .0) (omega arith) (i .1) (subst (λ (x : Monomial). Precedes x (rowAt G (suc r))) (sym (i .2)) q))
+
+    pub last-marks : suc r ≡ length G → (i : ℕ) → multiplicativeTest G (rowAt G r) i ≡ true
+    last-marks e i = highest-marks G (rowAt G r) (none-after e) i
+
+pub marks-last : (n : ℕ) (G : Table) → Ascending G → (r : ℕ) → suc r ≡ length G → marksOf n G (rowAt G r) + 1 ≡ 2 ^ n
+marks-last n G a r e = marks-highest n G (rowAt G r) (none-after G a r e)
+
+pub marks-successor : (n : ℕ) (G : Table) → Ascending G → (r : ℕ) → suc r < length G → (j : ℕ) → j < n
+    → SameBefore (suc j) (rowAt G r) (rowAt G (suc r)) → rowAt G r ! suc j < rowAt G (suc r) ! suc j
+    → marksOf n G (rowAt G r) + 2 ^ suc j ≡ marksOf n G (rowAt G (suc r)) % 2 ^ j + 2 ^ n
+marks-successor n G a r l = marks-next n G (rowAt G r) (rowAt G (suc r)) (member-at G [] (suc r) l) (none-between G a r l)

@@ -5,7 +5,7 @@
 --   insert a l, first l, last l, numbersFrom r k   a number put in its place; the first and the last of a list, if there is one; the k row numbers from r on
 --   distinct l       the distinct numbers of l, ascending
 --   exponents G i g  the distinct exponents of the group g at variable i, ascending
---   stepped G q i g  those that do not exceed q's: the exponents stepped on
+--   steppedOn G q i g   those that do not exceed q's: the exponents stepped on
 --   goesOn G q i g e   the last exponent stepped on, e, is q's, or the largest of the group
 --   onward           the rest of the descent where it goes on, and its end with nothing where it does not
 --   descend          the descent from a variable on, in a group
@@ -20,7 +20,7 @@ use mathlib.Core.Option.{Option, none, some}
 use Prim.Native.Nat.{ℕ, zero, suc, _+_, _≤_, _<_}
 use lib.Dec.{leb, ltb, eqb}
 use lib.ListN.{length}
-use Rattle.terms.specs.Tests.{pick, all, keep}
+use Rattle.checks.specs.Tests.{pick, all, keep}
 use Rattle.terms.specs.Monomials.{Monomial, Table, _!_, rowAt}
 
 pub record Descent : Type 0 where
@@ -56,9 +56,9 @@ unfoldable pub exponents : Table → ℕ → List ℕ → List ℕ
 unfolding distinct
 exponents G i g = distinct (map (λ r. rowAt G r ! i) g)
 
-unfoldable pub stepped : Table → Monomial → ℕ → List ℕ → List ℕ
+unfoldable pub steppedOn : Table → Monomial → ℕ → List ℕ → List ℕ
 unfolding exponents
-stepped G q i g = keep (λ e. leb e (q ! i)) (exponents G i g)
+steppedOn G q i g = keep (λ e. leb e (q ! i)) (exponents G i g)
 
 -- a is q's exponent, or the group's largest
 unfoldable pub goesOn : Table → Monomial → ℕ → List ℕ → ℕ → Bool
@@ -66,10 +66,10 @@ goesOn G q i g a = eqb a (q ! i) || all (λ r. leb (rowAt G r ! i) a) g
 
 -- at variable i, with a the last exponent stepped on, if there is one: `next` is the descent from the next variable on in a smaller group
 unfoldable pub onward : Table → Monomial → ℕ → List ℕ → Option ℕ → (List ℕ → Descent) → Descent
-unfolding stepped goesOn
+unfolding steppedOn goesOn
 onward G q i g none next = record { found = none; steps = 0; ended = i }
 onward G q i g (some a) next =
-    let k = length (stepped G q i g) in
+    let k = length (steppedOn G q i g) in
     let d = next (keep (λ r. eqb (rowAt G r ! i) a) g) in
     pick (goesOn G q i g a)
     (record { found = d .found; steps = k + d .steps; ended = d .ended })
@@ -77,9 +77,9 @@ onward G q i g (some a) next =
 
 -- with k variables left, the next one i
 unfoldable pub descend : Table → Monomial → ℕ → ℕ → List ℕ → Descent
-unfolding onward first last stepped
+unfolding onward first last steppedOn
 descend G q zero i g = record { found = first g; steps = 0; ended = 0 }
-descend G q (suc k) i g = onward G q i g (last (stepped G q i g)) (λ h. descend G q k (suc i) h)
+descend G q (suc k) i g = onward G q i g (last (steppedOn G q i g)) (λ h. descend G q k (suc i) h)
 
 unfoldable pub descent : ℕ → Table → Monomial → Descent
 unfolding descend numbersFrom

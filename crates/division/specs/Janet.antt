@@ -6,6 +6,7 @@
 --   marksByte n f    the byte in which variable i, of 1 to n, has the value 2 ^ (i − 1) where f holds of it
 --   marksCount n f   how many of the variables 1 to n have a mark, f holding of those
 --   marksOf n G u    rule 2: the marks of row u as a byte
+--   marksIn n G u    how many marks row u has
 --   tableMarks n G   the marks of each row, in the order of the rows
 --   JanetDivisor     rule 3: u is a Janet divisor of q in G
 --   Complete         rule 4
@@ -16,10 +17,10 @@ use mathlib.Core.List.{List, map}
 use Prim.Native.Nat.{ℕ, zero, suc, _+_, _^_, _≤_}
 use lib.Dec.{leb, ltb, eqb}
 use lib.ListN.{length}
-use Rattle.terms.specs.Tests.{pick, _implies_, each, all, any, keep}
+use Rattle.checks.specs.Tests.{pick, _implies_, each, all, any, keep}
 use Rattle.terms.specs.Monomials.{Monomial, Table, _!_, _∈_, SameBefore, times}
 use Rattle.terms.specs.Ideal.{dividesTest}
-use Rattle.division.specs.Cones.{Marking, Divisor, CompleteBy}
+use Rattle.division.specs.Cones.{Division, Divisor, CompleteBy}
 
 -- ---- rule 2
 
@@ -28,7 +29,7 @@ pub record InGroup (G : Table) (u : Monomial) (i : ℕ) (v : Monomial) : Type 0 
   pub same : SameBefore i v u
 
 -- Variable i is multiplicative for u if u's exponent there is the largest in its group.
-abbrev pub Multiplicative : Marking
+abbrev pub Multiplicative : Division
 Multiplicative G u i = (v : Monomial) → InGroup G u i v → v ! i ≤ u ! i
 
 unfoldable pub sameBeforeTest : ℕ → Monomial → Monomial → Bool
@@ -54,6 +55,10 @@ marksCount (suc n) f = marksCount n f + pick (f (suc n)) 1 0
 unfoldable pub marksOf : ℕ → Table → Monomial → ℕ
 unfolding marksByte multiplicativeTest
 marksOf n G u = marksByte n (multiplicativeTest G u)
+
+unfoldable pub marksIn : ℕ → Table → Monomial → ℕ
+unfolding marksCount multiplicativeTest
+marksIn n G u = marksCount n (multiplicativeTest G u)
 
 unfoldable pub tableMarks : ℕ → Table → List ℕ
 unfolding marksOf

@@ -1,12 +1,7 @@
 -- Rules 2, 3, 4 and 6: marks, cones, complete tables and the descent.
 pub mod Cones
 pub mod Janet
-pub mod Ordering
-pub mod Successor
-pub mod Marking
 pub mod Scan
 pub mod Descent
 pub mod Ranges
-pub mod Completeness
-pub mod Finding
-pub mod Inside
+pub mod Checks

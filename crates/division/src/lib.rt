@@ -1,7 +1,9 @@
-// Division: marks (rule 2), inside (rule 1) and find (rules 3 and 6), and the check whether a table is complete (rule 4).
-pub mod completeness;
-pub mod finding;
-pub mod inside;
-pub mod marking;
-pub mod ordering;
-pub mod successor;
+// Division: the rules of marks (rule 2), cones (3), complete tables (4) and the descent (6), with their laws. There is no function here: the crates
+// above compute what these rules say.
+use terms::RowNumber;
+
+// What a search for a row finds.
+pub enum Found {
+    Row(RowNumber),
+    Nothing,
+}

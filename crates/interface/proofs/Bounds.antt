@@ -5,7 +5,7 @@
 --   steps-small     steps are at most 256 for each variable
 --   steady-small    a steady degree is at most 300
 --   located-small   n, row count and place of an opened table are below 65,536
-use mathlib.Core.Path.{_≡_, refl, sym, ap, _∙_, subst}
+use mathlib.Core.Path.{_≡_, sym, ap, _∙_, subst}
 use mathlib.Core.List.{List}
 use mathlib.Core.Logic.{by-cases}
 use Prim.Native.Nat.{ℕ, _≤_, _<_}
@@ -14,34 +14,34 @@ use native.Mathlib.Decide.{ℕ-discrete}
 use native.Mathlib.Omega.{arith}
 use lib.ListN.{length, getD}
 use Rattle.terms.specs.Rows.{rows}
-use Rattle.terms.specs.Refusals.{refusal}
+use Rattle.checks.specs.Refusals.{refusal}
 use Rattle.terms.specs.declared.RowNumber.{RowNumber}
 use Rattle.terms.specs.declared.Degree.{Degree}
 use Rattle.terms.proofs.MonomialLaws.{most-by, degree-most}
 use Rattle.terms.proofs.RowsLaws.{rows-size}
-use Rattle.terms.proofs.RefusalLaws.{rows-small}
-use Rattle.division.specs.Finding.{FindPromise, findChecks, findNumber, findSteps}
-use Rattle.division.specs.Inside.{InsidePromise, insideChecks}
-use Rattle.division.specs.declared.finding.FindAnswer.{FindAnswer}
-use Rattle.division.specs.declared.finding.FindAnswer.the-variants.{Row}
-use Rattle.division.specs.declared.inside.InsideAnswer.{InsideAnswer}
-use Rattle.division.specs.declared.inside.InsideAnswer.the-variants as inside
-use Rattle.division.proofs.FindLaws.{find-finds, find-steps, find-ready, find-length}
-use Rattle.division.proofs.InsideLaws.{inside-passed, inside-finds}
-use Rattle.completion.specs.Operation.{CompletePromise}
-use Rattle.completion.specs.declared.CompleteAnswer.{CompleteAnswer}
-use Rattle.completion.specs.declared.CompleteAnswer.the-variants as complete
-use Rattle.completion.proofs.OperationLaws.{complete-count, accepted-room, room-limited}
+use Rattle.terms.proofs.TableLaws.{rows-small}
+use Rattle.finding.specs.Operation.{FindPromise, findChecks, findNumber, findSteps}
+use Rattle.inside.specs.Operation.{InsidePromise, insideChecks}
+use Rattle.finding.specs.declared.FindAnswer.{FindAnswer}
+use Rattle.finding.specs.declared.FindAnswer.the-variants.{Row}
+use Rattle.inside.specs.declared.InsideAnswer.{InsideAnswer}
+use Rattle.inside.specs.declared.InsideAnswer.the-variants as inside
+use Rattle.finding.proofs.OperationLaws.{find-finds, find-steps, find-ready, find-length}
+use Rattle.inside.proofs.OperationLaws.{inside-passed, inside-finds}
+use Rattle.completing.specs.Operation.{CompletePromise}
+use Rattle.completing.specs.declared.CompleteAnswer.{CompleteAnswer}
+use Rattle.completing.specs.declared.CompleteAnswer.the-variants as complete
+use Rattle.completing.proofs.OperationLaws.{complete-count, accepted-room, room-limited}
 use Rattle.counting.specs.Operations.{SteadyPromise, steadyChecks, steadyNumber, steadyValue}
 use Rattle.counting.specs.declared.SteadyAnswer.{SteadyAnswer}
 use Rattle.counting.specs.declared.SteadyAnswer.the-variants as steady
-use Rattle.counting.proofs.PolynomialLaws.{steady-most}
+use Rattle.counts.proofs.PolynomialLaws.{steady-most}
 use Rattle.counting.proofs.OperationLaws.{steady-checked}
-use Rattle.bundle.specs.Format.{variablesOf, rowCount, placeOf}
 use Rattle.bundle.specs.Checks.{openChecks}
 use Rattle.bundle.specs.Operation.{LocatePromise}
 use Rattle.bundle.specs.declared.Located.{Located}
-use Rattle.bundle.proofs.ReadLaws.{opened-is, refused-is, open-accepted}
+use Rattle.bundle.proofs.ReadLaws.{open-accepted, numbers, zeros}
+use Rattle.checks.proofs.RefusalLaws.{answered-accepted}
 
 -- ---- find
 
@@ -57,8 +57,8 @@ pub steps-small : {n : ℕ} {table query : List ℕ} {answer a : FindAnswer} →
     → answer ≡ a → findNumber a ≡ 0 → findSteps a ≤ 1536
 steps-small {n} {table} {query} {answer} h p e f =
     let z : refusal (findChecks n table query) ≡ 0 = sym (p .number) ∙ ap findNumber e ∙ f in
-    let few = degree-most 255 query (most-by 255 query (λ i. le-of-suc-le-suc (h i))) in
-    omega (arith, ap findSteps e, find-steps n table query answer p z, few, find-length n table query z, find-ready n table query z .few)
+    let small = degree-most 255 query (most-by 255 query (λ i. le-of-suc-le-suc (h i))) in
+    omega (arith, ap findSteps e, find-steps n table query answer p z, small, find-length n table query z, find-ready n table query z .six)
 
 -- ---- steady
 
@@ -66,7 +66,13 @@ pub steady-small : {n : ℕ} {table : List ℕ} {answer : SteadyAnswer} {d : Deg
 steady-small {n} {table} p e =
     let z : refusal (steadyChecks n table) ≡ 0 = sym (p .number) ∙ ap steadyNumber e in
     let t = steady-checked n table z .accepted in
-    omega (arith, ap steadyValue e, ap steadyValue (p .value z), steady-most n 50 (rows n table) (rows-size n table) (rows-small n table t), t .few)
+    omega (
+      arith,
+      ap steadyValue e,
+      p .value ∙ answered-accepted (steadyChecks n table) _ 0 z,
+      steady-most n 50 (rows n table) (rows-size n table) (rows-small n table t),
+      t .six,
+    )
 
 -- ---- open
 
@@ -77,20 +83,17 @@ pub record Small (r : Located) : Type 0 where
 
 pub located-small : (b : List ℕ) (j : ℕ) (r : Located) → LocatePromise b j r → Small r
 located-small b j r p = by-cases (ℕ-discrete (refusal (openChecks b j)) 0)
-    (λ z.
-    let a = open-accepted b j z in
+    (λ e.
+    let a = open-accepted b j e in
     let l = a .0 .layout in
     let w = l .tables j (a .1) in
+    let z = numbers b j r p e in
     record {
-      variables = omega (arith, p .variables, opened-is b j (variablesOf b) 0 z, l .frame .fewVariables);
-      count = omega (arith, p .count, opened-is b j (rowCount b j) 0 z, w .limited);
-      begins = omega (arith, p .begins, opened-is b j (placeOf b j) 0 z, w .within, l .frame .short);
+      variables = omega (arith, z .0, l .frame .six);
+      count = omega (arith, z .1, w .limited);
+      begins = omega (arith, z .2, w .within, l .frame .short);
     })
-    (λ g. record {
-      variables = omega (arith, p .variables, refused-is b j (variablesOf b) 0 _ refl g);
-      count = omega (arith, p .count, refused-is b j (rowCount b j) 0 _ refl g);
-      begins = omega (arith, p .begins, refused-is b j (placeOf b j) 0 _ refl g);
-    })
+    (λ g. let z = zeros b j r p g in record { variables = omega (arith, z .0); count = omega (arith, z .1); begins = omega (arith, z .2) })
 
 -- ---- inside
 

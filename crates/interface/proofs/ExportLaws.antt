@@ -5,21 +5,21 @@
 use mathlib.Core.Path.{_≡_, sym, ap}
 use mathlib.Core.List.{List}
 use Prim.Native.Nat.{ℕ}
-use Rattle.division.specs.Marking.{MarksPromise, marksNumber}
-use Rattle.division.specs.Inside.{InsidePromise, insideNumber}
-use Rattle.division.specs.Finding.{FindPromise, findNumber, findSteps}
-use Rattle.division.specs.declared.marking.MarksAnswer.{MarksAnswer}
-use Rattle.division.specs.declared.inside.InsideAnswer.{InsideAnswer}
-use Rattle.division.specs.declared.finding.FindAnswer.{FindAnswer}
-use Rattle.completion.specs.Operation.{CompletePromise, completeNumber, completeRows}
-use Rattle.completion.specs.declared.CompleteAnswer.{CompleteAnswer}
-use Rattle.counting.specs.Operations.{CountPromise, countNumber, countValue}
-use Rattle.counting.specs.Operations.{PolynomialPromise, polynomialNumber, polynomialValue, SteadyPromise, steadyNumber, steadyValue}
+use Rattle.marking.specs.Operation.{MarksPromise, marksNumber}
+use Rattle.inside.specs.Operation.{InsidePromise, insideNumber}
+use Rattle.finding.specs.Operation.{FindPromise, findNumber, findSteps}
+use Rattle.marking.specs.declared.MarksAnswer.{MarksAnswer}
+use Rattle.inside.specs.declared.InsideAnswer.{InsideAnswer}
+use Rattle.finding.specs.declared.FindAnswer.{FindAnswer}
+use Rattle.completing.specs.Operation.{CompletePromise, completeNumber, completeRows}
+use Rattle.completing.specs.declared.CompleteAnswer.{CompleteAnswer}
+use Rattle.counting.specs.Operations.{CountPromise, countNumber, countValue, PolynomialPromise, polynomialNumber, polynomialValue, SteadyPromise}
+use Rattle.counting.specs.Operations.{steadyNumber, steadyValue}
 use Rattle.counting.specs.declared.CountAnswer.{CountAnswer}
 use Rattle.counting.specs.declared.PolynomialAnswer.{PolynomialAnswer}
 use Rattle.counting.specs.declared.SteadyAnswer.{SteadyAnswer}
-use Rattle.interface.specs.Exports.{MarksExport, InsideExport, insideOut, CompleteExport, FindExport, rowOut}
-use Rattle.interface.specs.Exports.{CountExport, PolynomialExport, SteadyExport}
+use Rattle.interface.specs.Exports.{MarksExport, InsideExport, insideOut, CompleteExport, FindExport, rowOut, CountExport, PolynomialExport}
+use Rattle.interface.specs.Exports.{SteadyExport}
 
 pub marks-out : {n : ℕ} {table buffer after : List ℕ} {answer a : MarksAnswer} → MarksPromise n table buffer answer after → answer ≡ a
     → MarksExport n table buffer (marksNumber a) after

@@ -8,18 +8,18 @@ use mathlib.Core.Path.{_≡_}
 use mathlib.Core.List.{List}
 use Prim.Native.Nat.{ℕ}
 use lib.IntN.{ℤ}
-use Rattle.division.specs.Marking.{MarksPromise, marksNumber}
-use Rattle.division.specs.declared.marking.MarksAnswer.{MarksAnswer}
-use Rattle.division.specs.Inside.{InsidePromise, insideNumber}
-use Rattle.division.specs.declared.inside.InsideAnswer.{InsideAnswer}
-use Rattle.division.specs.declared.inside.InsideAnswer.the-variants as inside
-use Rattle.completion.specs.Operation.{CompletePromise, completeNumber, completeRows}
-use Rattle.completion.specs.declared.CompleteAnswer.{CompleteAnswer}
-use Rattle.division.specs.Finding.{FindPromise, findNumber, findSteps}
-use Rattle.division.specs.declared.finding.FindAnswer.{FindAnswer}
-use Rattle.division.specs.declared.finding.FindAnswer.the-variants as find
-use Rattle.counting.specs.Operations.{CountPromise, PolynomialPromise, SteadyPromise}
-use Rattle.counting.specs.Operations.{countNumber, countValue, polynomialNumber, polynomialValue, steadyNumber, steadyValue}
+use Rattle.marking.specs.Operation.{MarksPromise, marksNumber}
+use Rattle.marking.specs.declared.MarksAnswer.{MarksAnswer}
+use Rattle.inside.specs.Operation.{InsidePromise, insideNumber}
+use Rattle.inside.specs.declared.InsideAnswer.{InsideAnswer}
+use Rattle.inside.specs.declared.InsideAnswer.the-variants as inside
+use Rattle.completing.specs.Operation.{CompletePromise, completeNumber, completeRows}
+use Rattle.completing.specs.declared.CompleteAnswer.{CompleteAnswer}
+use Rattle.finding.specs.Operation.{FindPromise, findNumber, findSteps}
+use Rattle.finding.specs.declared.FindAnswer.{FindAnswer}
+use Rattle.finding.specs.declared.FindAnswer.the-variants as find
+use Rattle.counting.specs.Operations.{CountPromise, PolynomialPromise, SteadyPromise, countNumber, countValue, polynomialNumber, polynomialValue}
+use Rattle.counting.specs.Operations.{steadyNumber, steadyValue}
 use Rattle.counting.specs.declared.CountAnswer.{CountAnswer}
 use Rattle.counting.specs.declared.PolynomialAnswer.{PolynomialAnswer}
 use Rattle.counting.specs.declared.SteadyAnswer.{SteadyAnswer}

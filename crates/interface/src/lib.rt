@@ -2,25 +2,26 @@
 // through a reference are answers, and become 0 on a refusal; lent buffers keep their bytes then. include/rocaplanh.h has the
 // declarations.
 use bundle::locate;
-use completion::CompleteAnswer;
-use completion::complete;
+use completing::CompleteAnswer;
+use completing::complete;
 use counting::CountAnswer;
 use counting::PolynomialAnswer;
 use counting::SteadyAnswer;
 use counting::count;
 use counting::polynomial;
 use counting::steady;
-use division::finding::FindAnswer;
-use division::finding::find;
-use division::inside::InsideAnswer;
-use division::inside::inside;
-use division::marking::MarksAnswer;
-use division::marking::marks;
+use finding::FindAnswer;
+use finding::find;
+use inside::InsideAnswer;
+use inside::inside;
+use marking::MarksAnswer;
+use marking::marks;
 use terms::Degree;
-ghost use Rattle.interface.specs.Exports.{MarksExport, InsideExport, CompleteExport, FindExport, CountExport, PolynomialExport, SteadyExport, OpenExport};
+ghost use Rattle.interface.specs.Exports.{MarksExport, InsideExport, CompleteExport, FindExport, CountExport, PolynomialExport, SteadyExport};
+ghost use Rattle.interface.specs.Exports.{OpenExport};
 
 // What stands for 'no row'.
-pub const NO_ROW: u32 = 65535;
+const NO_ROW: u32 = 65535;
 
 // The marks of each row, a byte a row at the front of the lent buffer.
 #[no_mangle]

@@ -1,18 +1,30 @@
 // The program: reads a bundle on standard input and writes its listing on standard output. It only reads, calls and
-// writes; every byte that it writes is made by the library.
+// writes; every byte of the listing is made by the library.
+ghost use mathlib.Core.Path.{_≡_};
+ghost use Rattle.checks.specs.Refusals.{refusal};
+ghost use Rattle.bundle.specs.Checks.{bundleChecks};
 
-// Writes part j of the output for a bundle; whether all of it was written.
-fn write_part(bundle: &[u8], j: usize) -> bool {
+// Writes part j of the output for a bundle that is refused by that number; whether all of it was written.
+fn write_part(bundle: &[u8], refused: u8, j: usize) -> bool
+    requires { ⌜ refused ≡ refusal (bundleChecks (now bundle)) ⌝ }
+{
     let mut out = [0u8; listing::TEXT_SIZE];
-    let size = listing::part_text(bundle, j, &mut out);
+    let size = listing::part_text(bundle, refused, j, &mut out);
     io::write_all(1, &out[..size])
 }
 
-// Writes the parts of the output in order, up to the first that could not be written.
+// Says on standard error that the listing could not be written.
+fn tell_failure() {
+    io::write_all(2, b"janet: the listing could not be written\n");
+}
+
+// Writes the parts of the output in order; stops at the first that could not be written, and tells it on standard error. The bundle is checked once.
 fn write_parts(bundle: &[u8]) {
+    let refused = bundle::bundle_refusal(bundle);
     let mut j = 0;
     while j < bundle::MOST_TABLES {
-        if !write_part(bundle, j) {
+        if !write_part(bundle, refused, j) {
+            tell_failure();
             return;
         }
         j += 1;

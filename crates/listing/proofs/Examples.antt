@@ -10,16 +10,17 @@ use Prim.Native.Nat.{ℕ}
 use Rattle.terms.specs.Monomials.{degree}
 use Rattle.terms.specs.Ideal.{dividesTest, insideTest}
 use Rattle.terms.specs.Rows.{rows, firstRows}
-use Rattle.terms.specs.Refusals.{refusal}
+use Rattle.checks.specs.Refusals.{refusal}
 use Rattle.terms.specs.ExampleTables.{listingD, bundleD}
 use Rattle.division.specs.Janet.{tableMarks, marksOf, marksByte, multiplicativeTest, group, sameBeforeTest}
 use Rattle.completion.specs.Blocks.{box, behind, repeated}
 use Rattle.completion.specs.Completed.{completed, completedTest, entersTest, candidate, largest, joined}
-use Rattle.counting.specs.Counts.{steadyOf}
+use Rattle.counts.specs.Counts.{steadyOf}
 use Rattle.bundle.specs.Format.{rowCount, offsetOf, placeOf}
 use Rattle.bundle.specs.Checks.{tablesChecks}
-use Rattle.listing.specs.Text.{digitsOf, decimal, fields, tableLine, rowLine, steadyLine, noRoomLine, refusalLine, rowLines}
-use Rattle.listing.specs.Text.{wholeText, completedText, tableText, tablesText, bundleText}
+use Rattle.text.specs.Decimal.{digitsOf, decimal, fields}
+use Rattle.listing.specs.Text.{tableLine, rowLine, steadyLine, noRoomLine, refusalLine, rowLines, wholeText, completedText, tableText, tablesText}
+use Rattle.listing.specs.Text.{bundleText}
 
 -- the output, with every definition that it rests on open to computation
 unfoldable output : List ℕ → List ℕ

@@ -1,5 +1,4 @@
 -- The laws of the text and of writing it.
-pub mod WrittenLaws
 pub mod TextLaws
 pub mod BoundLaws
 pub mod TableLaws

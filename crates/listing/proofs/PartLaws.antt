@@ -2,7 +2,7 @@
 --
 --   part-refused, part-silent, part-none   what is written of a refused bundle, and where there is no table j
 --   refusalLine-bound      the line of a refusal has room
---   Found b j f            what is known of table j of an accepted bundle, found by `locate`
+--   Found b j f t          what is known of the bytes t of table j of an accepted bundle, found by `locate`
 --   table-part             part j of an accepted bundle is the text of its table j
 --   part-found             it is known of each table that is found
 --   part-written           a text written from the start that is part j keeps the promise
@@ -18,21 +18,25 @@ use native.Mathlib.Omega.{arith}
 use lib.Dec.{eqb, ltb}
 use lib.ListN.{length, take, drop, length-append}
 use lib.Seq.{take-append-seam}
-use Rattle.terms.specs.Tests.{pick, pick-true, pick-false, tests-lt, tests-eq}
+use Rattle.checks.specs.Tests.{pick}
+use Rattle.checks.proofs.TestLaws.{pick-true, pick-false, tests-lt, tests-eq}
 use Rattle.terms.specs.Rows.{rows}
-use Rattle.terms.specs.Refusals.{refusal, tableChecks}
-use Rattle.terms.proofs.RefusalLaws.{table-passed}
+use Rattle.checks.specs.Refusals.{refusal}
+use Rattle.terms.specs.TableChecks.{tableChecks}
+use Rattle.terms.proofs.TableLaws.{table-passed}
 use Rattle.bundle.specs.Format.{variablesOf, tableCount, bodyOf, tableOf}
 use Rattle.bundle.specs.Checks.{bundleChecks, openChecks}
 use Rattle.bundle.specs.Operation.{LocatePromise}
 use Rattle.bundle.specs.declared.Located.{Located}
 use Rattle.bundle.proofs.AcceptedLaws.{accepted-bundle, table-passes-checks}
-use Rattle.bundle.proofs.ReadLaws.{opened-is, opens-table, open-accepted, body-shown}
-use Rattle.listing.specs.Text.{refusalLine, tableText, tablesText, bundleText, partText, partsText}
-use Rattle.listing.specs.Written.{written, Wrote}
+use Rattle.checks.proofs.RefusalLaws.{answered-accepted}
+use Rattle.bundle.proofs.ReadLaws.{numbers, opens-table, open-accepted, body-shown}
+use Rattle.text.proofs.DecimalLaws.{decimal-length}
+use Rattle.listing.specs.Text.{textSize, refusalLine, tableText, tablesText, bundleText, partText, partsText}
+use Rattle.text.specs.Written.{written, Wrote}
 use Rattle.listing.specs.Operation.{PartPromise}
 use Rattle.listing.proofs.TextLaws.{refusalLine-length}
-use Rattle.listing.proofs.BoundLaws.{decimal-three, text-bound}
+use Rattle.listing.proofs.BoundLaws.{text-bound}
 
 -- ---- where no table is written
 
@@ -64,33 +68,30 @@ pub part-none : (b : List ℕ) (j : ℕ) {m : ℕ} {f : Located} → m ≡ refus
     → (f .refusal ≡ 0 → ⊥) → [] ≡ partText b j
 part-none b j e z p g = past-part b j (sym e ∙ z) (λ h. g (p .number ∙ sym (opens-table b j (sym e ∙ z) h)))
 
-pub refusalLine-bound : (m : ℕ) → m < 256 → length (refusalLine m) ≤ 94229
-refusalLine-bound m h = omega (arith, refusalLine-length m, decimal-three m (omega arith))
+pub refusalLine-bound : (m : ℕ) → m < 256 → length (refusalLine m) ≤ textSize
+refusalLine-bound m h = omega (arith, refusalLine-length m, decimal-length 2 m (omega arith))
 
 -- ---- a table that is found
 
--- the bytes that are cut from the bundle for it
-abbrev pub cut : List ℕ → Located → List ℕ
-cut b f = take (f .place + f .rows * f .n - f .place) (drop (f .place) b)
+-- its bytes t are the part of the bundle that `part` shows
+pub record Found (b : List ℕ) (j : ℕ) (f : Located) (t : List ℕ) : Type 0 where
+  pub checks : refusal (tableChecks (f .n) t) ≡ 0
+  pub text : tableText (f .n) j (rows (f .n) t) ≡ partText b j
+  pub bound : length (tableText (f .n) j (rows (f .n) t)) ≤ textSize
 
-pub record Found (b : List ℕ) (j : ℕ) (f : Located) : Type 0 where
-  pub checks : refusal (tableChecks (f .n) (cut b f)) ≡ 0
-  pub text : tableText (f .n) j (rows (f .n) (cut b f)) ≡ partText b j
-  pub bound : length (tableText (f .n) j (rows (f .n) (cut b f))) ≤ 94229
-
-pub part-found : (b : List ℕ) (j : ℕ) {m : ℕ} {f : Located} → m ≡ refusal (bundleChecks b) → m ≡ 0 → LocatePromise b j f → f .refusal ≡ 0 → Found b j f
-part-found b j {f = f} g y p z =
+pub part-found : (b : List ℕ) (j : ℕ) {m : ℕ} {f : Located} {t : List ℕ} → m ≡ refusal (bundleChecks b) → m ≡ 0 → LocatePromise b j f → f .refusal ≡ 0
+    → t ≡ take (f .rows * f .n) (drop (f .place) b) → Found b j f t
+part-found b j {f = f} {t} g y p z s =
     let e : refusal (openChecks b j) ≡ 0 = sym (p .number) ∙ z in
     let a = open-accepted b j e in
-    let n : f .n ≡ variablesOf b = p .variables ∙ opened-is b j (variablesOf b) 0 e in
-    let body : cut b f ≡ bodyOf b j =
-    ap (λ (k : ℕ). take k (drop (f .place) b)) (add-sub-cancel-left (f .place) (f .rows * f .n)) ∙ body-shown b j f p ∙ opened-is b j (bodyOf b j) [] e in
-    let checks : refusal (tableChecks (f .n) (cut b f)) ≡ 0 = rw (body, n) (table-passes-checks b (a .0) j (a .1)) in
-    let few = a .0 .layout .frame .fewTables in
+    let n : f .n ≡ variablesOf b = numbers b j f p e .0 in
+    let body : t ≡ bodyOf b j = s ∙ body-shown b j f p ∙ answered-accepted (openChecks b j) (bodyOf b j) [] e in
+    let checks : refusal (tableChecks (f .n) t) ≡ 0 = rw (body, n) (table-passes-checks b (a .0) j (a .1)) in
+    let most = a .0 .layout .frame .sixteen in
     record {
       checks = checks;
       text = rw (body, n) (table-part b j (sym g ∙ y) (a .1));
-      bound = text-bound (f .n) j (cut b f) (table-passed (f .n) (cut b f) 0 (sym checks) refl) (omega (arith, a .1));
+      bound = text-bound (f .n) j t (table-passed (f .n) t 0 (sym checks) refl) (omega (arith, a .1));
     }
 
 -- ---- what is promised of a part
@@ -149,7 +150,7 @@ pub bundle-parts : (b : List ℕ) → bundleText b ≡ partsText b 0 16
 unfolding partsText
 bundle-parts b = by-cases (ℕ-discrete (refusal (bundleChecks b)) 0)
     (λ e.
-    let few = accepted-bundle b e .layout .frame .fewTables in
+    let most = accepted-bundle b e .layout .frame .sixteen in
     let all : tableCount b + (16 - tableCount b) ≡ 16 = omega arith in
     sym (accepted-text b e) ∙ table-parts b e (tableCount b) 0 (16 - tableCount b) (omega arith) ∙ ap (λ (k : ℕ). partsText b 0 k) all)
     (λ f.

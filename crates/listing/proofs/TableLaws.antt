@@ -15,20 +15,21 @@ use lib.ListN.{length, take, drop, length-append, List·getD-append}
 use Rattle.terms.specs.Monomials.{Table}
 use Rattle.terms.specs.Order.{Ascending}
 use Rattle.terms.specs.Rows.{rows, flat}
-use Rattle.terms.specs.Refusals.{refusal, Accepts, tableChecks}
+use Rattle.checks.specs.Refusals.{refusal, Accepts}
+use Rattle.terms.specs.TableChecks.{tableChecks, TableAccepted}
 use Rattle.terms.proofs.RowsLaws.{length-flat, rows-flat, rows-size}
-use Rattle.terms.specs.Refusals.{TableAccepted}
-use Rattle.terms.proofs.RefusalLaws.{table-accepted, table-passed, accepted}
+use Rattle.terms.proofs.TableLaws.{table-accepted, table-passed}
+use Rattle.checks.proofs.RefusalLaws.{accepted}
 use Rattle.division.specs.Janet.{tableMarks}
-use Rattle.division.specs.Marking.{marked}
-use Rattle.division.proofs.MarksLaws.{length-tableMarks}
-use Rattle.completion.specs.Operation.{roomFor, completedOf, CompletePromise}
-use Rattle.completion.specs.declared.CompleteAnswer.{CompleteAnswer}
-use Rattle.completion.specs.declared.CompleteAnswer.the-variants.{Rows, Refused}
-use Rattle.completion.proofs.CompletedLaws.{completed-table}
-use Rattle.completion.proofs.OperationLaws.{complete-count, complete-front, complete-kept, complete-length}
-use Rattle.completion.proofs.OperationLaws.{room-enough, room-fits, accepted-room, room-limited, completedOf-size}
-use Rattle.counting.specs.Counts.{steadyOf}
+use Rattle.marking.specs.Operation.{marked}
+use Rattle.division.proofs.MarkByteLaws.{length-tableMarks}
+use Rattle.completing.specs.Operation.{roomFor, completedOf, CompletePromise}
+use Rattle.completing.specs.declared.CompleteAnswer.{CompleteAnswer}
+use Rattle.completing.specs.declared.CompleteAnswer.the-variants.{Rows, Refused}
+use Rattle.completion.proofs.RuleFive.{completed-table}
+use Rattle.completing.proofs.OperationLaws.{complete-count, complete-front, complete-positive, complete-length, room-enough, room-fits, accepted-room}
+use Rattle.completing.proofs.OperationLaws.{room-limited, completedOf-size}
+use Rattle.counts.specs.Counts.{steadyOf}
 use Rattle.listing.specs.Text.{rowLines, tableLine, steadyLine, wholeText, completedText, tableText}
 use Rattle.listing.proofs.BoundLaws.{tableText-room}
 
@@ -54,7 +55,7 @@ marked-text n j given H buffer {marks} e =
 
 pub record Made (n : ℕ) (table : List ℕ) (k : ℕ) (after : List ℕ) : Type 0 where
   pub some : 0 < n
-  pub few : n ≤ 6
+  pub six : n ≤ 6
   pub fits : k * n ≤ length after
   pub size : length (take (k * n) after) ≡ k * n
   pub same : rows n (take (k * n) after) ≡ completedOf n table
@@ -73,7 +74,7 @@ made-rows {n} {table} {buffer} {answer} {k} {after} r q e =
     let room = accepted-room n table (length buffer) (sym (p .number)) in
     record {
       some = t .some;
-      few = t .few;
+      six = t .six;
       fits = omega (arith, room-fits n (length buffer) k (omega arith), complete-length p);
       size = ap length front ∙ length-flat n H z ∙ ap (λ (m : ℕ). m * n) (sym counted);
       same = ap (rows n) front ∙ rows-flat n H (t .some) z;
@@ -82,20 +83,20 @@ made-rows {n} {table} {buffer} {answer} {k} {after} r q e =
     }
 
 -- six bytes for each of 4,096 rows are room for 4,096 rows
-room-whole : (n : ℕ) → 0 < n → n ≤ 6 → 4096 ≤ roomFor n 24576
+room-whole : (n : ℕ) → 0 < n → n ≤ 6 → 4096 ≤ roomFor n (4096 * 6)
 unfolding roomFor
 room-whole n h l = le-min (omega arith) (le-div-iff-mul-le h .1 (omega arith))
 
 pub made-none : {n : ℕ} {table buffer : List ℕ} {answer : CompleteAnswer} {m : ℕ} {after : List ℕ} → refusal (tableChecks n table) ≡ 0
-    → CompletePromise n table buffer answer after → answer ≡ Refused m → length buffer ≡ 24576 → 4096 < length (completedOf n table)
+    → CompletePromise n table buffer answer after → answer ≡ Refused m → length buffer ≡ 4096 * 6 → 4096 < length (completedOf n table)
 made-none {n} {table} {buffer} {answer} {m} {after} r q e s =
     let a : Accepts (tableChecks n table) = accepted (tableChecks n table) r in
     let p : CompletePromise n table buffer (Refused m) after = subst (λ (r : CompleteAnswer). CompletePromise n table buffer r after) e q in
     let t = table-accepted n table a in
     by-cases (decLe (length (completedOf n table)) 4096)
     (λ l.
-    let room : length (completedOf n table) ≤ roomFor n (length buffer) = rw s (omega (arith, room-whole n (t .some) (t .few))) in
-    absurd (omega (arith, complete-kept p .0, p .number, room-enough n table (length buffer) a room)))
+    let room : length (completedOf n table) ≤ roomFor n (length buffer) = rw s (omega (arith, room-whole n (t .some) (t .six))) in
+    absurd (omega (arith, complete-positive p, p .number, room-enough n table (length buffer) a room)))
     (λ g. omega arith)
 
 -- the text of the table, from the completed rows in the buffer

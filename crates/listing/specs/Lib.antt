@@ -1,4 +1,3 @@
 -- The text of the listing, and what its writers promise.
 pub mod Text
-pub mod Written
 pub mod Operation

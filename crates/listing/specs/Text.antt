@@ -1,12 +1,9 @@
 -- The text that the program writes, as bytes.
 --
---   decimal x        the decimal digits of x in ASCII, without zeros in front; 0 is one digit
---   valueFrom v l    the number that the digits l give behind the number v
---   fields l         the fields of l, parted by one space
---   line l           those fields and a line feed
 --   tableLine, rowLine, steadyLine   the lines of a table: `T` and its numbers, a completed row with its marks, `S` and the steady degree
 --   noRoomLine j     the only line of a table whose completion into 4,096 rows is refused
 --   refusalLine m    the only line of a refused bundle
+--   spaced u         the exponents of u, each with one space behind it
 --   rowLines H marks k   the lines of the first k rows of H, the marks of row r standing at r
 --   wholeText        the lines of a table, from its completed table, its marks and a steady degree
 --   completedText n j given H   the lines of table j with so many given rows, whose completed table is H
@@ -15,52 +12,22 @@
 --   bundleText b     the whole output for the bundle b
 --   partText b j     its part j: what is written of table j, and of a refused bundle the whole in part 0
 --   partsText b j m  the parts j to j + m − 1
+--   textSize         the most bytes of a table's text: 4,096 rows of at most 23 bytes, a first line of at most 15 and a last one of at most 6
 use mathlib.Core.List.{List, [], _∷_, _++_, map}
-use Prim.Native.Nat.{ℕ, zero, suc, _+_, _*_, _-_, _/_, _%_}
+use Prim.Native.Nat.{ℕ, zero, suc, _+_, _*_}
 use lib.Dec.{ltb, eqb}
 use lib.ListN.{length, getD}
-use Rattle.terms.specs.Tests.{pick}
+use Rattle.checks.specs.Tests.{pick}
 use Rattle.terms.specs.Monomials.{Monomial, Table, rowAt}
-use Rattle.terms.specs.Refusals.{refusal}
+use Rattle.checks.specs.Refusals.{refusal}
 use Rattle.division.specs.Janet.{tableMarks}
 use Rattle.completion.specs.Completed.{completed}
-use Rattle.counting.specs.Counts.{steadyOf}
+use Rattle.counts.specs.Counts.{steadyOf}
 use Rattle.bundle.specs.Format.{variablesOf, tableCount, tableOf}
 use Rattle.bundle.specs.Checks.{bundleChecks}
+use Rattle.text.specs.Decimal.{decimal, line, space}
 
--- ---- numbers, fields and lines
-
--- the ASCII code of a digit below 10
-abbrev pub digit : ℕ → ℕ
-digit d = 48 + d
-
--- the digits of x, none where x is 0; f is at least x, so that none is left out
-unfoldable pub digitsOf : ℕ → ℕ → List ℕ
-digitsOf zero x = []
-digitsOf (suc f) zero = []
-digitsOf (suc f) (suc x) = digitsOf f (suc x / 10) ++ (digit (suc x % 10) ∷ [])
-
-unfoldable pub decimal : ℕ → List ℕ
-decimal x = digitsOf x (x / 10) ++ (digit (x % 10) ∷ [])
-
--- the number that digits give, read behind the number v
-unfoldable pub valueFrom : ℕ → List ℕ → ℕ
-valueFrom v [] = v
-valueFrom v (d ∷ l) = valueFrom (10 * v + (d - 48)) l
-
-abbrev pub space : ℕ
-space = 32
-
-abbrev pub lineFeed : ℕ
-lineFeed = 10
-
-unfoldable pub fields : List (List ℕ) → List ℕ
-fields [] = []
-fields (f ∷ []) = f
-fields (f ∷ (g ∷ l)) = f ++ (space ∷ fields (g ∷ l))
-
-abbrev pub line : List (List ℕ) → List ℕ
-line l = fields l ++ (lineFeed ∷ [])
+-- ---- letters
 
 abbrev pub letterT : List ℕ
 letterT = 84 ∷ []
@@ -91,6 +58,11 @@ noRoomLine j = line (letterT ∷ (decimal j ∷ (letterR ∷ (decimal 8 ∷ []))
 unfoldable pub refusalLine : ℕ → List ℕ
 refusalLine m = line (letterR ∷ (decimal m ∷ []))
 
+-- each exponent with one space behind it
+unfoldable pub spaced : Monomial → List ℕ
+spaced [] = []
+spaced (e ∷ u) = decimal e ++ (space ∷ spaced u)
+
 -- ---- a table
 
 unfoldable pub rowLines : Table → List ℕ → ℕ → List ℕ
@@ -108,6 +80,9 @@ unfoldable pub tableText : ℕ → ℕ → Table → List ℕ
 tableText n j G =
     let H : Table = completed n G in
     pick (ltb 4096 (length H)) (noRoomLine j) (completedText n j (length G) H)
+
+abbrev pub textSize : ℕ
+textSize = 4096 * 23 + 15 + 6
 
 -- ---- a bundle
 

@@ -1,53 +1,41 @@
 // The text that the program writes, as bytes in a lent buffer. Each writer puts its text from a place on, leaves every
 // other byte as it was, and answers the place behind the text.
-use completion::CompleteAnswer;
+use bundle::locate_checked;
+use bundle::part;
+use completing::COMPLETED_SIZE;
+use completing::CompleteAnswer;
 use terms::Degree;
+use terms::MOST_ROWS;
 use terms::Row;
 use terms::RowNumber;
+use text::put_byte;
+use text::put_field;
+use text::put_number;
 ghost use mathlib.Core.Path.{_≡_};
 ghost use mathlib.Core.List.{[], _∷_, _++_};
 ghost use Prim.Native.Nat.{_+_, _≤_, _<_};
-ghost use lib.ListN.{length, take};
+ghost use lib.ListN.{length};
 ghost use Rattle.terms.specs.Order.{Ascending};
-ghost use Rattle.terms.specs.Rows.{rows};
-ghost use Rattle.terms.specs.Refusals.{refusal, tableChecks};
-ghost use Rattle.counting.specs.Counts.{steadyOf};
-ghost use Rattle.listing.specs.Text.{decimal, space, tableLine, rowLine, steadyLine, noRoomLine, refusalLine, rowLines, wholeText, completedText, tableText};
-ghost use Rattle.listing.specs.Written.{Wrote, spaced};
+ghost use Rattle.terms.specs.Rows.{rows, monomialOf};
+ghost use Rattle.checks.specs.Refusals.{refusal};
+ghost use Rattle.terms.specs.TableChecks.{tableChecks};
+ghost use Rattle.counts.specs.Counts.{steadyOf};
+ghost use Rattle.text.specs.Decimal.{decimal, space};
+ghost use Rattle.text.specs.Written.{Wrote};
+ghost use Rattle.listing.specs.Text.{spaced, tableLine, rowLine, steadyLine, noRoomLine, refusalLine, rowLines, wholeText, completedText, tableText};
+ghost use Rattle.bundle.specs.Checks.{bundleChecks};
 ghost use Rattle.listing.specs.Operation.{PartPromise};
 
-// The most bytes that the text of a table needs: 23 for the line of each of 4,096 rows, 15 for the first line, 6 for the last.
-pub const TEXT_SIZE: usize = 94229;
+// The most bytes of a line: a row's, with six exponents of two digits and marks of two; the first, with a table number of two digits and
+// row counts of four; the last, with a degree of three.
+const ROW_LINE: usize = 6 * 3 + 1 + 3 + 1;
 
-// Writes one byte.
-fn put_byte(out: &mut [u8], at: usize, byte: u8) -> usize
-    requires { ⌜ at < length (now out) ⌝ }
-    ensures { λ r. ⌜ Wrote (now (out .entry)) at (byte ∷ []) r (now (out .exit)) ⌝ }
-{
-    out[at] = byte;
-    at + 1
-}
+const FIRST_LINE: usize = 1 + 3 + 5 + 5 + 1;
 
-// Writes a number in decimal digits.
-fn put_number(out: &mut [u8], at: usize, x: usize) -> usize
-    requires { ⌜ at + length (decimal x) ≤ length (now out) ⌝ }
-    ensures { λ r. ⌜ Wrote (now (out .entry)) at (decimal x) r (now (out .exit)) ⌝ }
-{
-    if x < 10 {
-        return put_byte(out, at, (48 + x) as u8);
-    }
-    let next = put_number(out, at, x / 10);
-    put_byte(out, next, (48 + x % 10) as u8)
-}
+const LAST_LINE: usize = 1 + 4 + 1;
 
-// Writes one space and a number.
-fn put_field(out: &mut [u8], at: usize, x: usize) -> usize
-    requires { ⌜ at + length (space ∷ decimal x) ≤ length (now out) ⌝ }
-    ensures { λ r. ⌜ Wrote (now (out .entry)) at (space ∷ decimal x) r (now (out .exit)) ⌝ }
-{
-    let next = put_byte(out, at, b' ');
-    put_number(out, next, x)
-}
+// The most bytes that the text of a table needs.
+pub const TEXT_SIZE: usize = MOST_ROWS * ROW_LINE + FIRST_LINE + LAST_LINE;
 
 // Writes an exponent and one space.
 fn put_exponent(out: &mut [u8], at: usize, e: u8) -> usize
@@ -60,8 +48,8 @@ fn put_exponent(out: &mut [u8], at: usize, e: u8) -> usize
 
 // Writes the exponents of a row, each with one space behind it.
 fn put_exponents(out: &mut [u8], at: usize, u: Row) -> usize
-    requires { ⌜ (u .n ≤ 6) × (at + length (spaced (take (u .n) (u .exponents))) ≤ length (now out)) ⌝ }
-    ensures { λ r. ⌜ Wrote (now (out .entry)) at (spaced (take (u .n) (u .exponents))) r (now (out .exit)) ⌝ }
+    requires { ⌜ (u .n ≤ 6) × (at + length (spaced (monomialOf u)) ≤ length (now out)) ⌝ }
+    ensures { λ r. ⌜ Wrote (now (out .entry)) at (spaced (monomialOf u)) r (now (out .exit)) ⌝ }
 {
     let exponents = u.exponents;
     let n = u.n;
@@ -76,8 +64,8 @@ fn put_exponents(out: &mut [u8], at: usize, u: Row) -> usize
 
 // Writes the line of a completed row: its exponents, `:` and its marks.
 fn put_row_line(out: &mut [u8], at: usize, u: Row, marks: u8) -> usize
-    requires { ⌜ (u .n ≤ 6) × (at + length (rowLine (take (u .n) (u .exponents)) marks) ≤ length (now out)) ⌝ }
-    ensures { λ r. ⌜ Wrote (now (out .entry)) at (rowLine (take (u .n) (u .exponents)) marks) r (now (out .exit)) ⌝ }
+    requires { ⌜ (u .n ≤ 6) × (at + length (rowLine (monomialOf u) marks) ≤ length (now out)) ⌝ }
+    ensures { λ r. ⌜ Wrote (now (out .entry)) at (rowLine (monomialOf u) marks) r (now (out .exit)) ⌝ }
 {
     let exponents_end = put_exponents(out, at, u);
     let colon_end = put_byte(out, exponents_end, b':');
@@ -86,7 +74,7 @@ fn put_row_line(out: &mut [u8], at: usize, u: Row, marks: u8) -> usize
 }
 
 // Writes the lines of the rows of a table, whose marks stand in their order at the front of `marks`.
-fn put_rows(out: &mut [u8], at: usize, n: usize, table: &[u8], marks: &[u8]) -> usize
+fn put_rows(n: usize, table: &[u8], marks: &[u8], out: &mut [u8], at: usize) -> usize
     requires { ⌜ (0 < n) × (n ≤ 6) × (length (rows n (now table)) ≤ length (now marks))
         × (at + length (rowLines (rows n (now table)) (now marks) (length (rows n (now table)))) ≤ length (now out)) ⌝ }
     ensures { λ r. ⌜ Wrote (now (out .entry)) at (rowLines (rows n (now (table .entry))) (now (marks .entry)) (length (rows n (now (table .entry)))))
@@ -96,7 +84,7 @@ fn put_rows(out: &mut [u8], at: usize, n: usize, table: &[u8], marks: &[u8]) -> 
     let mut next = at;
     let mut k = 0;
     while k < count {
-        let u = terms::row_at(table, n, RowNumber(k));
+        let u = terms::row_at(n, table, RowNumber(k));
         next = put_row_line(out, next, u, marks[k]);
         k += 1;
     }
@@ -149,7 +137,7 @@ fn put_refusal_line(out: &mut [u8], at: usize, number: u8) -> usize
 }
 
 // Writes the text of table j from the start, from its given rows, its completed table and the marks of that table's rows.
-fn put_whole(out: &mut [u8], j: usize, n: usize, given: &[u8], table: &[u8], marks: &[u8]) -> usize
+fn put_whole(n: usize, table: &[u8], marks: &[u8], given: &[u8], j: usize, out: &mut [u8]) -> usize
     requires { ⌜ (0 < n) × (n ≤ 6) × (length (rows n (now table)) ≤ length (now marks))
         × (length (wholeText j (length (rows n (now given))) (rows n (now table)) (now marks) (steadyOf (rows n (now table)))) ≤ length (now out)) ⌝ }
     ensures { λ r. ⌜ Wrote (now (out .entry)) 0
@@ -159,55 +147,53 @@ fn put_whole(out: &mut [u8], j: usize, n: usize, given: &[u8], table: &[u8], mar
     let count = given.len() / n;
     let made = table.len() / n;
     let line_end = put_table_line(out, 0, j, count, made);
-    let rows_end = put_rows(out, line_end, n, table, marks);
-    let steady = counting::sums::steady_sum(n, table);
+    let rows_end = put_rows(n, table, marks, out, line_end);
+    let steady = summing::largest_degree(n, table);
     put_steady_line(out, rows_end, steady)
 }
 
 // Writes the text of table j from the start, from its given rows and its completed table.
-fn put_completed(out: &mut [u8], j: usize, n: usize, given: &[u8], table: &[u8]) -> usize
+fn put_completed(n: usize, table: &[u8], given: &[u8], j: usize, out: &mut [u8]) -> usize
     requires { ⌜ (0 < n) × (n ≤ 6) × Ascending (rows n (now table)) × (length (rows n (now table)) ≤ 4096)
         × (length (completedText n j (length (rows n (now given))) (rows n (now table))) ≤ length (now out)) ⌝ }
     ensures { λ r. ⌜ Wrote (now (out .entry)) 0 (completedText n j (length (rows n (now (given .entry)))) (rows n (now (table .entry)))) r (now (out .exit)) ⌝ }
 {
-    let mut marks = [0u8; 4096];
-    division::marking::mark_ascending(n, table, &mut marks);
-    put_whole(out, j, n, given, table, &marks)
+    let mut marks = [0u8; MOST_ROWS];
+    marking::mark_ascending(n, table, &mut marks);
+    put_whole(n, table, &marks, given, j, out)
 }
 
 // Writes the text of table j from the start, from its given rows: completes them, or says that there is no room.
-fn put_table(out: &mut [u8], j: usize, n: usize, table: &[u8]) -> usize
+fn put_table(n: usize, table: &[u8], j: usize, out: &mut [u8]) -> usize
     requires { ⌜ (refusal (tableChecks n (now table)) ≡ 0) × (length (tableText n j (rows n (now table))) ≤ length (now out)) ⌝ }
     ensures { λ r. ⌜ Wrote (now (out .entry)) 0 (tableText n j (rows n (now (table .entry)))) r (now (out .exit)) ⌝ }
 {
-    let mut made = [0u8; 24576];
-    match completion::complete(n, table, &mut made) {
+    let mut made = [0u8; COMPLETED_SIZE];
+    match completing::complete(n, table, &mut made) {
         CompleteAnswer::Rows(count) => {
             let size = count * n;
-            put_completed(out, j, n, table, &made[..size])
+            let completed: &[u8] = &made[..size];
+            put_completed(n, completed, table, j, out)
         }
         CompleteAnswer::Refused(_) => put_no_room_line(out, 0, j),
     }
 }
 
-// Writes part j of the program's output for a bundle from the start: the text of table j, and nothing where there is no
-// such table; of a refused bundle the line of its refusal in part 0, and nothing in the others.
-pub fn part_text(bundle: &[u8], j: usize, out: &mut [u8; TEXT_SIZE]) -> usize
+// Writes part j of the program's output for a bundle from the start, from the number by which the bundle is refused: the text of table j, and
+// nothing where there is no such table; of a refused bundle the line of its refusal in part 0, and nothing in the others.
+pub fn part_text(bundle: &[u8], refused: u8, j: usize, out: &mut [u8; TEXT_SIZE]) -> usize
+    requires { ⌜ refused ≡ refusal (bundleChecks (now bundle)) ⌝ }
     ensures { λ r. ⌜ PartPromise (now (bundle .entry)) j (now (out .entry)) r (now (out .exit)) ⌝ }
 {
-    let number = bundle::bundle_refusal(bundle);
-    if number != 0 {
+    if refused != 0 {
         if j != 0 {
             return 0;
         }
-        return put_refusal_line(out, 0, number);
+        return put_refusal_line(out, 0, refused);
     }
-    let found = bundle::locate(bundle, j);
+    let found = locate_checked(bundle, refused, j);
     if found.refusal != 0 {
         return 0;
     }
-    let start = found.place;
-    let size = found.rows * found.n;
-    let end = start + size;
-    put_table(out, j, found.n, &bundle[start..end])
+    put_table(found.n, part(bundle, found), j, out)
 }

@@ -11,49 +11,45 @@ use Prim.Native.Nat.{ℕ, _+_, _*_, _/_, _%_, _^_, _≤_, _<_}
 use native.Mathlib.Nat.{le-trans}
 use native.Mathlib.Decide.{decLt}
 use native.Mathlib.Omega.{arith}
-use lib.ListN.{length, take, drop}
-use Rattle.terms.specs.Monomials.{Monomial, Table, _!_, degree}
+use lib.ListN.{length, take, drop, getD}
+use Rattle.terms.specs.Monomials.{Monomial, Table, _!_, degree, rowAt}
 use Rattle.terms.specs.Order.{Ascending}
 use Rattle.terms.specs.Rows.{rows, firstRows, flat}
-use Rattle.terms.specs.Refusals.{Check, Accepts, Refuses, refusal, tableChecks}
+use Rattle.checks.specs.Refusals.{Check, Accepts, Refuses, refusal, answered}
+use Rattle.terms.specs.TableChecks.{tableChecks, TableAccepted}
 use Rattle.terms.proofs.RowsLaws.{rows-size, rows-flat}
-use Rattle.terms.proofs.RefusalLaws.{accepted, accepts-nil, accepts-cons, accepts-left, accepts-append, accepts-refusal, refusal-refuses, refuses-refusal}
-use Rattle.terms.specs.Refusals.{TableAccepted}
-use Rattle.terms.proofs.RefusalLaws.{table-accepted, accepts-table, rows-small}
-use Rattle.division.specs.Janet.{Multiplicative, Complete}
-use Rattle.division.specs.Finding.{FindPromise, lengthCheck, orderCheck, findChecks, findNumber, findRow, findSteps}
-use Rattle.division.proofs.FindLaws.{find-finds, find-steps, find-ready}
+use Rattle.checks.proofs.RefusalLaws.{accepted, accepts-nil, accepts-cons, accepts-left, accepts-append, accepts-refusal, refusal-refuses, refuses-refusal}
+use Rattle.checks.proofs.RefusalLaws.{answered-accepted, answered-refused}
+use Rattle.terms.proofs.TableLaws.{table-accepted, accepts-table, rows-small}
+use Rattle.division.specs.Janet.{Multiplicative, Complete, marksOf, tableMarks}
+use Rattle.finding.specs.Operation.{FindPromise, findChecks, findNumber, findRow, findSteps}
+use Rattle.division.specs.Checks.{lengthCheck, orderCheck}
+use Rattle.finding.proofs.OperationLaws.{find-finds, find-steps, find-ready}
 use Rattle.completion.specs.Completed.{CompletedTable}
-use Rattle.completion.specs.Operation.{CompletePromise, completeChecks, completeNumber, completeRows, completedOf, roomFor}
-use Rattle.completion.specs.declared.CompleteAnswer.{CompleteAnswer}
-use Rattle.completion.specs.declared.CompleteAnswer.the-variants.{Rows, Refused}
-use Rattle.completion.proofs.CompletedLaws.{completed-table, completed-unique, completed-most}
-use Rattle.completion.proofs.CompletionLaws.{completion-ideal, completion-complete, completion-one, completion-none, completion-size}
-use Rattle.completion.proofs.OperationLaws.{complete-unique, complete-refuses, complete-rows, complete-front, complete-behind, complete-kept}
-use Rattle.completion.proofs.OperationLaws.{room-enough, no-room, accepted-room, room-limited}
-use Rattle.counting.specs.Counts.{CountsOutside, countAt}
-use Rattle.counting.proofs.CountLaws.{count-outside}
+use Rattle.completing.specs.Operation.{CompletePromise, completeChecks, completeNumber, completeRows, completedOf, roomFor}
+use Rattle.completing.specs.declared.CompleteAnswer.{CompleteAnswer}
+use Rattle.completing.specs.declared.CompleteAnswer.the-variants.{Rows, Refused}
+use Rattle.completion.proofs.RuleFive.{completed-table, completed-unique, completed-most}
+use Rattle.completion.proofs.SmallestTable.{completion-ideal, completion-complete, completion-one, completion-none, completion-size, completed-contained}
+use Rattle.completing.proofs.OperationLaws.{complete-rows, complete-front, complete-behind, complete-positive, room-enough, no-room, accepted-room}
+use Rattle.completing.proofs.OperationLaws.{room-limited}
+use Rattle.counts.specs.Counts.{CountsOutside, countAt}
+use Rattle.counts.proofs.CountLaws.{count-outside}
 use Rattle.division.proofs.Cover.{inside-divisor}
-use Rattle.counting.specs.Operations.{CountPromise, degreeCheck, completeCheck, orderChecks, countChecks, countNumber, countValue}
+use Rattle.counting.specs.Operations.{CountPromise, degreeCheck, completeCheck, countableChecks, countChecks, countNumber, countValue}
 use Rattle.counting.specs.declared.CountAnswer.{CountAnswer}
 use Rattle.terms.specs.Ideal.{Inside}
 use Rattle.division.specs.Cones.{DivisorAt}
 use Rattle.division.specs.Scan.{scan, Answers}
-use Rattle.division.specs.declared.finding.FindAnswer.{FindAnswer}
+use Rattle.finding.specs.declared.FindAnswer.{FindAnswer}
 use Rattle.division.proofs.JanetLaws.{janet-disjoint, ascending-distinct}
 use Rattle.division.proofs.DescentLaws.{scan-finds, answers-first, answers-unique}
-use Rattle.terms.specs.Tests.{tests-eq}
-use Rattle.terms.specs.Monomials.{rowAt}
-use Rattle.division.specs.Janet.{marksOf, tableMarks}
-use Rattle.division.specs.Marking.{MarksPromise, marksNumber}
-use Rattle.division.specs.declared.marking.MarksAnswer.{MarksAnswer}
-use Rattle.division.proofs.MarksLaws.{tests-marks, front-marks, length-tableMarks, marksOf-below}
-use Rattle.division.proofs.MarkingLaws.{marks-unique, marks-accepts, marks-refuses}
-use lib.ListN.{getD}
+use Rattle.checks.proofs.TestLaws.{tests-eq}
+use Rattle.marking.specs.Operation.{MarksPromise, marksNumber}
+use Rattle.marking.specs.declared.MarksAnswer.{MarksAnswer}
+use Rattle.division.proofs.MarkByteLaws.{tests-marks, front-marks, length-tableMarks, marksOf-below}
 use lib.Seq.{drop-at}
 use Rattle.bundle.specs.Checks.{openChecks}
-use Rattle.bundle.specs.Operation.{opened}
-use Rattle.bundle.proofs.ReadLaws.{refused-is}
 use Rattle.paper.specs.Demands.{Settled, DemandOne, DemandTwo, DemandThree, Completion, MarksWritten, OneDivisor}
 use Rattle.paper.proofs.EndToEnd.{outside-ideal, flat-accepted}
 
@@ -67,25 +63,16 @@ settled checks number e = record {
   refused = λ p. subst (λ (m : ℕ). Refuses checks m) (sym e) (refusal-refuses checks (omega arith));
 }
 
--- a refused completion leaves the buffer
-complete-leaves : (n : ℕ) (table buffer : List ℕ) (answer : CompleteAnswer) (after : List ℕ) → CompletePromise n table buffer answer after
-    → 0 < completeNumber answer → after ≡ buffer
-complete-leaves n table buffer answer after p l = complete-unique p (complete-refuses n table buffer (omega (arith, p .number))) .1
-
-marks-leaves : (n : ℕ) (table buffer : List ℕ) (answer : MarksAnswer) (after : List ℕ) → MarksPromise n table buffer answer after
-    → 0 < marksNumber answer → after ≡ buffer
-marks-leaves n table buffer answer after p l = marks-unique p (marks-refuses n table buffer (marksNumber answer) l (p .number)) .1
-
--- beside the number of a refused table stand 0 and an empty part
-refused-values : {A : Type 0} (b : List ℕ) (j m : ℕ) → m ≡ refusal (openChecks b j) → 0 < m → (x z : A) → opened b j x z ≡ z
-refused-values b j m e l x z = refused-is b j x z m e (λ n. omega arith)
+-- what stands beside a refusal
+beside : {A : Type 0} (checks : List Check) (m : ℕ) → m ≡ refusal checks → 0 < m → (x z : A) → answered checks x z ≡ z
+beside checks m e l x z = answered-refused checks x z (λ n. omega arith)
 
 pub demand-one : DemandOne
 demand-one = record {
-  marks = λ n table buffer answer after p. (settled _ _ (p .number), marks-leaves n table buffer answer after p);
+  marks = λ n table buffer answer after p. (settled _ _ (p .number), λ l. p .writes ∙ beside _ _ (p .number) l _ buffer);
   inside = λ n table query answer p. settled _ _ (p .number);
   complete = λ n table buffer answer after p.
-      (settled (completeChecks n table (length buffer)) (completeNumber answer) (p .number), complete-leaves n table buffer answer after p);
+      (settled (completeChecks n table (length buffer)) (completeNumber answer) (p .number), λ l. p .writes ∙ beside _ _ (p .number) l _ buffer);
   find = λ n table query answer p. settled (findChecks n table query) (findNumber answer) (p .number);
   count = λ n table s answer p. settled _ _ (p .number);
   polynomial = λ n table s answer p. settled _ _ (p .number);
@@ -93,14 +80,14 @@ demand-one = record {
   locate = λ bundle j answer p. (
     settled _ _ (p .number),
     λ l.
-        let none = refused-values bundle j (answer .refusal) (p .number) l in
+        let none = beside (openChecks bundle j) (answer .refusal) (p .number) l in
         (p .variables ∙ none _ 0, p .count ∙ none _ 0, p .begins ∙ none _ 0),
   );
   opened = λ bundle j answer p. (
     settled _ _ (p .number),
     λ l.
-        let none = refused-values (now bundle) j (answer .refusal) (p .number) l in
-        (p .variables ∙ none _ 0, p .count ∙ none _ 0, p .shown ∙ refused-values (now bundle) j (answer .refusal) (p .number) l _ []),
+        let none = beside (openChecks (now bundle) j) (answer .refusal) (p .number) l in
+        (p .variables ∙ none _ 0, p .count ∙ none _ 0, p .shown ∙ beside (openChecks (now bundle) j) (answer .refusal) (p .number) l _ []),
   );
 }
 
@@ -110,13 +97,14 @@ demand-one = record {
 accepted-promise : (n : ℕ) (table buffer : List ℕ) (answer : CompleteAnswer) (after : List ℕ) → CompletePromise n table buffer answer after
     → completeNumber answer ≡ 0 → CompletePromise n table buffer (Rows (completeRows answer)) after
 accepted-promise n table buffer (Rows k) after p e = p
-accepted-promise n table buffer (Refused m) after p e = absurd (omega (arith, complete-kept p .0))
+accepted-promise n table buffer (Refused m) after p e = absurd (omega (arith, complete-positive p))
 
 completion-of : (n : ℕ) (table buffer : List ℕ) (k : ℕ) (after : List ℕ) → CompletePromise n table buffer (Rows k) after → Completion n table buffer k after
 completion-of n table buffer k after p = record {
   rule = complete-rows p;
   complete = completion-complete n (rows n table) (rows-size n table) (complete-rows p);
   ideal = completion-ideal n (rows n table) (rows-size n table) (complete-rows p);
+  smallest = λ K z c same u m. completed-contained n (rows n table) K z c same u (complete-rows p .only u m);
   behind = complete-behind p;
 }
 
@@ -147,7 +135,7 @@ marking-of n table buffer answer after p e = record {
     G = rows n table
 
     written : after ≡ tableMarks n G ++ drop (length G) buffer
-    written = marks-unique p (marks-accepts n table buffer (sym (p .number) ∙ e)) .1
+    written = p .writes ∙ answered-accepted _ _ buffer (sym (p .number) ∙ e)
 
     byte : (r : ℕ) → r < length G → getD after r 0 ≡ marksOf n G (rowAt G r)
     byte r l = ap (λ (b : List ℕ). getD b r 0) written ∙ front-marks n G (drop (length G) buffer) r l
@@ -211,22 +199,23 @@ module _ (n : ℕ) (table buffer : List ℕ) (k : ℕ) (after : List ℕ) (p : C
   -- they are within the limits
   bytes-accepted : Accepts (tableChecks n (flat H))
   bytes-accepted =
-      accepts-table n (flat H) (flat-accepted n H (given .some) (given .few) (completion-size is)
+      accepts-table n (flat H) (flat-accepted n H (given .some) (given .six) (completion-size is)
       (le-trans (accepted-room n table (length buffer) (sym (p .number))) (room-limited n (length buffer)))
       (completed-most 50 n (rows n table) (rows-size n table) (rows-small n table given)))
 
   -- they pass every check of count
   counted : (s : ℕ) → s ≤ 300 → Accepts (countChecks n (flat H) s)
-  counted s l = accepts-append (tableChecks n (flat H)) (degreeCheck s ∷ orderChecks n (flat H)) bytes-accepted
+  counted s l = accepts-append (tableChecks n (flat H)) (degreeCheck s ∷ countableChecks n (flat H)) bytes-accepted
       (accepts-cons (degreeCheck s) _ (λ h. omega (arith, h))
       (accepts-cons (orderCheck n (flat H)) _ (λ h. h (subst Ascending same-rows (is .ascends)))
-      (accepts-cons (completeCheck n (flat H)) _ (λ h. h (subst (Complete n) same-rows (completion-complete n (rows n table) (rows-size n table) is))) accepts-nil)))
+      (accepts-cons (completeCheck n (flat H)) _ (λ h. h (subst (Complete n) same-rows (completion-complete n (rows n table) (rows-size n table) is)))
+      accepts-nil)))
 
   count-answers : (s : ℕ) → s ≤ 300 → (answer : CountAnswer) → CountPromise n (flat H) s answer
       → (countNumber answer ≡ 0) × CountsOutside n (rows n table) s (countValue answer)
   count-answers s l answer c =
       let z : refusal (countChecks n (flat H) s) ≡ 0 = accepts-refusal (countChecks n (flat H) s) (counted s l) in
-      let value : countAt n H s ≡ countValue answer = sym (ap countValue (c .value z) ∙ ap (λ (G : Table). countAt n G s) (sym same-rows)) in (
+      let value : countAt n H s ≡ countValue answer = sym (c .value ∙ answered-accepted _ _ 0 z ∙ ap (λ (G : Table). countAt n G s) (sym same-rows)) in (
         c .number ∙ z,
         subst (λ (k : ℕ). CountsOutside n (rows n table) s k) value
             (outside-ideal (completion-ideal n (rows n table) (rows-size n table) is) (count-outside n H s)),
@@ -238,7 +227,8 @@ module _ (n : ℕ) (table buffer : List ℕ) (k : ℕ) (after : List ℕ) (p : C
   find-answers query e answer f =
       let z : findNumber answer ≡ 0 = f .number ∙ accepts-refusal (findChecks n (flat H) query)
       (accepts-append (tableChecks n (flat H)) (lengthCheck n query ∷ (orderCheck n (flat H) ∷ [])) bytes-accepted
-      (accepts-cons (lengthCheck n query) _ (λ h. h e) (accepts-cons (orderCheck n (flat H)) _ (λ h. h (subst Ascending same-rows (is .ascends))) accepts-nil))) in
+      (accepts-cons (lengthCheck n query) _ (λ h. h e)
+      (accepts-cons (orderCheck n (flat H)) _ (λ h. h (subst Ascending same-rows (is .ascends))) accepts-nil))) in
       let found = found-divides n (flat H) query answer f z in (
         z,
         (

@@ -12,8 +12,8 @@ use Rattle.terms.specs.Monomials.{Monomial, Table, _∈_, OfSize, AtMost}
 use Rattle.terms.specs.Ideal.{SameIdeal}
 use Rattle.terms.specs.Rows.{flat}
 use Rattle.terms.proofs.RowsLaws.{rows-flat, length-flat, member-index}
-use Rattle.terms.specs.Refusals.{TableAccepted}
-use Rattle.counting.specs.Counts.{CountsOutside}
+use Rattle.terms.specs.TableChecks.{TableAccepted}
+use Rattle.counts.specs.Counts.{CountsOutside}
 
 pub outside-ideal : {n : ℕ} {G H : Table} {s k : ℕ} → SameIdeal n G H → CountsOutside n H s k → CountsOutside n G s k
 outside-ideal same c = record {
@@ -34,11 +34,11 @@ flat-entry (u ∷ G) e m = ⊎-elim
 
 -- a table of n exponents a row, within the limits, is within them as bytes
 pub flat-accepted : (n : ℕ) (G : Table) → 0 < n → n ≤ 6 → OfSize n G → length G ≤ 4096 → ((u : Monomial) → u ∈ G → AtMost 50 u) → TableAccepted n (flat G)
-flat-accepted n G p l z few small =
+flat-accepted n G p l z limited small =
     let count = ap length (rows-flat n G p z) in
     record {
       some = p;
-      few = l;
+      six = l;
       whole = length-flat n G z ∙ ap (λ (k : ℕ). k * n) (sym count);
       limited = omega (arith, count);
       small = λ e m.

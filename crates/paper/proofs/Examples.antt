@@ -8,7 +8,8 @@ use Rattle.terms.proofs.OrderLaws.{tests-ascending}
 use Rattle.division.specs.Descent.{descent}
 use Rattle.division.proofs.Examples as division
 use Rattle.completion.proofs.Examples as completion
-use Rattle.counting.proofs.Examples as counting
+use Rattle.completing.proofs.Examples as completing
+use Rattle.counts.proofs.Examples as counting
 use Rattle.listing.proofs.Examples as listing
 use Rattle.paper.specs.Examples.{StarredExamples}
 
@@ -22,11 +23,19 @@ starred-examples = record {
   A = (completion.example-A-table, λ q. record { found = refl; steps = refl }, counting.example-A);
   B = (completion.example-B-table, division.example-B-marks, counting.example-B);
   C = (counting.example-C-count, counting.example-C-polynomial);
-  D = (listing.listing, completion.example-D-table, division.example-D-marks, counting.example-D .3, counting.example-D .0, counting.example-D .2, counting.example-D .1);
+  D = (
+    listing.listing,
+    completion.example-D-table,
+    division.example-D-marks,
+    counting.example-D .3,
+    counting.example-D .0,
+    counting.example-D .2,
+    counting.example-D .1,
+  );
   E = completion.example-E-table;
   F = (ascending-F, division.example-F-marks, division.example-F-open);
   G = (record { found = refl; steps = refl }, record { found = refl; steps = refl });
   H = (completion.example-H-table, refl);
   I = completion.example-I-table;
-  J = (λ buffer answer after e p. completion.example-J-accepted buffer e p, λ buffer answer after e p. completion.example-J-refused buffer e p);
+  J = (λ buffer answer after e p. completing.example-J-accepted buffer e p, λ buffer answer after e p. completing.example-J-refused buffer e p);
 }

@@ -2,14 +2,14 @@
 --
 --   one-result, one-export
 use mathlib.Core.Path.{_≡_, sym, ap, _∙_}
-use Rattle.division.specs.Marking.{marksNumber}
-use Rattle.division.specs.Inside.{insideNumber}
-use Rattle.division.specs.Finding.{findNumber, findSteps}
-use Rattle.division.proofs.MarkingLaws.{marks-unique}
-use Rattle.division.proofs.InsideLaws.{inside-unique}
-use Rattle.division.proofs.FindLaws.{find-unique}
-use Rattle.completion.specs.Operation.{completeNumber, completeRows}
-use Rattle.completion.proofs.OperationLaws.{complete-unique}
+use Rattle.marking.specs.Operation.{marksNumber}
+use Rattle.inside.specs.Operation.{insideNumber}
+use Rattle.finding.specs.Operation.{findNumber, findSteps}
+use Rattle.marking.proofs.OperationLaws.{marks-unique}
+use Rattle.inside.proofs.OperationLaws.{inside-unique}
+use Rattle.finding.proofs.OperationLaws.{find-unique}
+use Rattle.completing.specs.Operation.{completeNumber, completeRows}
+use Rattle.completing.proofs.OperationLaws.{complete-unique}
 use Rattle.counting.specs.Operations.{countNumber, countValue, polynomialNumber, polynomialValue, steadyNumber, steadyValue}
 use Rattle.counting.proofs.OperationLaws.{count-unique, polynomial-unique, steady-unique}
 use Rattle.bundle.specs.declared.Located.{Located}

@@ -1,29 +1,38 @@
 -- What goes out is what the rules say: values, exported numbers, the listing.
 --
---   value-demand, export-demand, listing-demand
+--   value-demand, export-demand, row-demand, listing-demand
 use mathlib.Core.Path.{_≡_, refl, sym, ap, _∙_, subst}
 use mathlib.Core.List.{List, Memᴰ·append-left}
 use Prim.Native.Nat.{ℕ, _<_}
 use native.Mathlib.Omega.{arith}
 use lib.IntN.{pos}
 use lib.ListN.{length}
-use Rattle.terms.specs.Tests.{tests-eq, tests-false}
+use Rattle.checks.proofs.TestLaws.{tests-eq, tests-false}
 use Rattle.terms.specs.Monomials.{Table}
-use Rattle.terms.specs.Refusals.{Check, Accepts, Refuses, refusal}
+use Rattle.checks.specs.Refusals.{Check, Accepts, Refuses, refusal}
 use Rattle.terms.proofs.RowsLaws.{rows-size}
-use Rattle.terms.proofs.RefusalLaws.{accepts-refusal, refuses-refusal}
-use Rattle.division.specs.Inside.{insideNumber}
-use Rattle.division.specs.Finding.{findNumber, findSteps}
-use Rattle.division.specs.declared.inside.InsideAnswer.{InsideAnswer}
-use Rattle.division.specs.declared.inside.InsideAnswer.the-variants as inside
-use Rattle.division.specs.declared.finding.FindAnswer.{FindAnswer}
-use Rattle.division.specs.declared.finding.FindAnswer.the-variants as find
-use Rattle.division.proofs.InsideLaws.{inside-finds}
+use Rattle.checks.proofs.RefusalLaws.{accepts-refusal, refuses-refusal, answered-accepted}
+use Rattle.inside.specs.Operation.{InsidePromise, insideNumber}
+use Rattle.inside.specs.FirstDividing.{FirstDividing}
+use Rattle.finding.specs.Operation.{FindPromise, findNumber, findSteps}
+use Rattle.inside.specs.declared.InsideAnswer.{InsideAnswer}
+use Rattle.inside.specs.declared.InsideAnswer.the-variants as inside
+use Rattle.finding.specs.declared.FindAnswer.{FindAnswer}
+use Rattle.finding.specs.declared.FindAnswer.the-variants as find
+use Rattle.inside.proofs.FirstLaws.{first-inside}
+use Rattle.inside.proofs.OperationLaws.{inside-finds, inside-positive}
+use Rattle.finding.proofs.OperationLaws.{find-finds, find-positive}
+use Rattle.interface.proofs.Bounds.{inside-small, row-small}
+use Rattle.division.specs.Cones.{DivisorAt}
+use Rattle.division.specs.Janet.{Multiplicative}
+use Rattle.terms.specs.Ideal.{Inside}
+use Rattle.terms.specs.Rows.{rows}
+use mathlib.Core.Logic.{_↔_}
 use Rattle.completion.specs.Completed.{CompletedTable, completed}
-use Rattle.completion.specs.Operation.{completeNumber, completeRows}
-use Rattle.completion.specs.declared.CompleteAnswer.{CompleteAnswer}
-use Rattle.completion.specs.declared.CompleteAnswer.the-variants as complete
-use Rattle.completion.proofs.CompletedLaws.{completed-table, completed-unique}
+use Rattle.completing.specs.Operation.{completeNumber, completeRows}
+use Rattle.completing.specs.declared.CompleteAnswer.{CompleteAnswer}
+use Rattle.completing.specs.declared.CompleteAnswer.the-variants as complete
+use Rattle.completion.proofs.RuleFive.{completed-table, completed-unique}
 use Rattle.counting.specs.Operations.{countNumber, countValue, polynomialNumber, polynomialValue, steadyNumber, steadyValue}
 use Rattle.counting.specs.declared.CountAnswer.{CountAnswer}
 use Rattle.counting.specs.declared.CountAnswer.the-variants as count
@@ -39,7 +48,7 @@ use Rattle.listing.proofs.BoundLaws.{tableText-room, tableText-full}
 use Rattle.listing.proofs.PartLaws.{part-front, table-part, bundle-parts}
 use Rattle.interface.specs.Exports.{insideOut, rowOut}
 use Rattle.paper.specs.Demands.{Settled}
-use Rattle.paper.specs.Outputs.{ValueDemand, ExportDemand, TableText, ListingDemand}
+use Rattle.paper.specs.Outputs.{ValueDemand, ExportDemand, RowDemand, TableText, ListingDemand}
 use Rattle.paper.proofs.Demands.{demand-one}
 
 -- ---- values
@@ -47,8 +56,8 @@ use Rattle.paper.proofs.Demands.{demand-one}
 pub value-demand : ValueDemand
 value-demand = record {
   inside = λ n table query answer p e. inside-finds n table query (sym (p .number) ∙ e) answer p;
-  polynomial = λ n table s answer p e. ap polynomialValue (p .value (sym (p .number) ∙ e));
-  steady = λ n table answer p e. ap steadyValue (p .value (sym (p .number) ∙ e));
+  polynomial = λ n table s answer p e. p .value ∙ answered-accepted _ _ (pos 0) (sym (p .number) ∙ e);
+  steady = λ n table answer p e. p .value ∙ answered-accepted _ _ 0 (sym (p .number) ∙ e);
 }
 
 -- ---- exported numbers
@@ -89,8 +98,10 @@ export-demand = record {
   marks = λ n table buffer number after x.
       let d = demand-one .marks n table buffer (x .answer) after (x .promise) in
       (returned (x .returned) (d .0), λ l. d .1 (omega (arith, x .returned)));
-  inside = λ n table query number row x.
-      (returned (x .returned) (demand-one .inside n table query (x .answer) (x .promise)), λ l. x .found ∙ inside-zero (x .answer) (omega (arith, x .returned)));
+  inside = λ n table query number row x. (
+    returned (x .returned) (demand-one .inside n table query (x .answer) (x .promise)),
+    λ l. x .found ∙ inside-zero (x .answer) (omega (arith, x .returned)),
+  );
   complete = λ n table buffer number count after x.
       let d = demand-one .complete n table buffer (x .answer) after (x .promise) in
       (returned (x .returned) (d .0), λ l. (x .counted ∙ complete-zero (x .answer) (omega (arith, x .returned)), d .1 (omega (arith, x .returned))));
@@ -101,8 +112,10 @@ export-demand = record {
   );
   count = λ n table s number value x.
       (returned (x .returned) (demand-one .count n table s (x .answer) (x .promise)), λ l. x .counted ∙ count-zero (x .answer) (omega (arith, x .returned)));
-  polynomial = λ n table s number value x.
-      (returned (x .returned) (demand-one .polynomial n table s (x .answer) (x .promise)), λ l. x .value-is ∙ polynomial-zero (x .answer) (omega (arith, x .returned)));
+  polynomial = λ n table s number value x. (
+    returned (x .returned) (demand-one .polynomial n table s (x .answer) (x .promise)),
+    λ l. x .value-is ∙ polynomial-zero (x .answer) (omega (arith, x .returned)),
+  );
   steady = λ n table number degree x.
       (returned (x .returned) (demand-one .steady n table (x .answer) (x .promise)), λ l. x .degree-is ∙ steady-zero (x .answer) (omega (arith, x .returned)));
   opened = λ bundle j number n count offset x.
@@ -111,6 +124,41 @@ export-demand = record {
         λ l.
             let z = d .1 (omega (arith, x .returned)) in (x .variables ∙ z .0, x .count ∙ z .1, x .begins ∙ z .2),
       );
+}
+
+-- ---- row numbers
+
+module _ (n : ℕ) (table query : List ℕ) (row : ℕ) where
+  abbrev G : Table
+  G = rows n table
+
+  -- the row that is given divides, so the ideal has the query; none is given where the query is outside
+  inside-row : (a : InsideAnswer) → InsidePromise n table query a → insideNumber a ≡ 0 → row ≡ insideOut a
+      → ((row ≡ 65535) ↔ (Inside G query → ⊥)) × ((row ≡ 65535 → ⊥) → (row < 4096) × FirstDividing G query row)
+  inside-row (inside.Row r) p e f =
+      let d : FirstDividing G query (r .0) = inside-finds n table query (sym (p .number)) (inside.Row r) p in
+      let small : r .0 < 4096 = inside-small p refl in (
+        (λ h. absurd (omega arith), λ outside. absurd (outside (first-inside d))),
+        λ h. (omega arith, rw f d),
+      )
+  inside-row inside.Nothing p e f = ((λ h. inside-finds n table query (sym (p .number)) inside.Nothing p, λ o. f), λ h. absurd (h f))
+  inside-row (inside.Refused m) p e f = absurd (omega (arith, inside-positive p, e))
+
+  find-row : (a : FindAnswer) → FindPromise n table query a → findNumber a ≡ 0 → row ≡ rowOut a
+      → ((row ≡ 65535) ↔ ((r : ℕ) → DivisorAt Multiplicative G r query → ⊥)) × ((row ≡ 65535 → ⊥) → (row < 4096) × DivisorAt Multiplicative G row query)
+  find-row (find.Row r steps) p e f =
+      let d : DivisorAt Multiplicative G (r .0) query = find-finds n table query (find.Row r steps) p (sym (p .number)) in
+      let small : r .0 < 4096 = row-small p refl in (
+        (λ h. absurd (omega arith), λ none. absurd (none (r .0) d)),
+        λ h. (omega arith, rw f d),
+      )
+  find-row (find.Nothing steps) p e f = ((λ h. find-finds n table query (find.Nothing steps) p (sym (p .number)), λ o. f), λ h. absurd (h f))
+  find-row (find.Refused m) p e f = absurd (omega (arith, find-positive p, e))
+
+pub row-demand : RowDemand
+row-demand = record {
+  inside = λ n table query number row x e. inside-row n table query row (x .answer) (x .promise) (sym (x .returned) ∙ e) (x .found);
+  find = λ n table query number row steps x e. find-row n table query row (x .answer) (x .promise) (sym (x .returned) ∙ e) (x .found);
 }
 
 -- ---- the listing

@@ -3,8 +3,8 @@
 --   Settled checks number   the operation answers exactly where no condition of its list holds, and otherwise refuses by
 --                           the number of the first condition that does
 --   DemandOne     each operation answers, or refuses by a number of the table exactly on its condition; a refusal leaves each lent byte
---   DemandTwo     marks follow rule 2; completion writes rule 5's table, ascending, complete and of the same ideal, and is refused for
---                 room exactly when that table has more rows than the room
+--   DemandTwo     marks follow rule 2; completion writes rule 5's table, ascending, complete, of the same ideal and the smallest such table, and
+--                 is refused for room exactly when that table has more rows than the room
 --   DemandThree   among the completed rows a monomial of the ideal has exactly one Janet divisor, and any other none; the descent finds
 --                 what a scan finds within degree plus n steps; the count from the completed rows is the number of monomials outside
 --   Completion, MarksWritten, OneDivisor   what stands in a buffer after an accepted completion, after accepted marks; one divisor and no other
@@ -17,27 +17,28 @@ use mathlib.Core.Logic.{_↔_}
 use Prim.Native.Nat.{ℕ, suc, _+_, _*_, _/_, _%_, _^_, _≤_, _<_}
 use denote.Ref.{RefT, now}
 use lib.ListN.{length, take, drop, getD}
-use Rattle.terms.specs.Monomials.{Monomial, Table, _!_, rowAt, degree}
+use Rattle.terms.specs.Monomials.{Monomial, Table, _!_, _∈_, rowAt, degree, OfSize}
 use Rattle.terms.specs.Ideal.{Inside, SameIdeal}
 use Rattle.terms.specs.Rows.{rows, firstRows}
-use Rattle.terms.specs.Refusals.{Check, Accepts, Refuses, tableChecks}
+use Rattle.checks.specs.Refusals.{Check, Accepts, Refuses}
+use Rattle.terms.specs.TableChecks.{tableChecks}
 use Rattle.division.specs.Cones.{DivisorAt}
 use Rattle.division.specs.Janet.{Multiplicative, Complete}
 use Rattle.division.specs.Scan.{scan}
-use Rattle.division.specs.Marking.{MarksPromise, marksChecks, marksNumber}
-use Rattle.division.specs.Inside.{InsidePromise, insideChecks, insideNumber}
-use Rattle.division.specs.declared.marking.MarksAnswer.{MarksAnswer}
-use Rattle.division.specs.declared.inside.InsideAnswer.{InsideAnswer}
-use Rattle.division.specs.Finding.{FindPromise, findChecks, findNumber, findRow, findSteps}
+use Rattle.marking.specs.Operation.{MarksPromise, marksChecks, marksNumber}
+use Rattle.inside.specs.Operation.{InsidePromise, insideChecks, insideNumber}
+use Rattle.marking.specs.declared.MarksAnswer.{MarksAnswer}
+use Rattle.inside.specs.declared.InsideAnswer.{InsideAnswer}
+use Rattle.finding.specs.Operation.{FindPromise, findChecks, findNumber, findRow, findSteps}
 use Rattle.completion.specs.Completed.{CompletedTable}
-use Rattle.completion.specs.Operation.{CompletePromise, completeChecks, completeNumber, completeRows, roomFor}
-use Rattle.counting.specs.Counts.{CountsOutside}
-use Rattle.counting.specs.Operations.{CountPromise, PolynomialPromise, SteadyPromise, countChecks, steadyChecks}
-use Rattle.counting.specs.Operations.{countNumber, countValue, polynomialNumber, steadyNumber}
+use Rattle.completing.specs.Operation.{CompletePromise, completeChecks, completeNumber, completeRows, roomFor}
+use Rattle.counts.specs.Counts.{CountsOutside}
+use Rattle.counting.specs.Operations.{CountPromise, PolynomialPromise, SteadyPromise, countChecks, steadyChecks, countNumber, countValue, polynomialNumber}
+use Rattle.counting.specs.Operations.{steadyNumber}
 use Rattle.bundle.specs.Checks.{openChecks}
 use Rattle.bundle.specs.Operation.{LocatePromise, OpenPromise}
-use Rattle.completion.specs.declared.CompleteAnswer.{CompleteAnswer}
-use Rattle.division.specs.declared.finding.FindAnswer.{FindAnswer}
+use Rattle.completing.specs.declared.CompleteAnswer.{CompleteAnswer}
+use Rattle.finding.specs.declared.FindAnswer.{FindAnswer}
 use Rattle.counting.specs.declared.CountAnswer.{CountAnswer}
 use Rattle.counting.specs.declared.PolynomialAnswer.{PolynomialAnswer}
 use Rattle.counting.specs.declared.SteadyAnswer.{SteadyAnswer}
@@ -72,6 +73,8 @@ pub record Completion (n : ℕ) (table buffer : List ℕ) (k : ℕ) (after : Lis
   pub rule : CompletedTable n (rows n table) (firstRows n k after)
   pub complete : Complete n (firstRows n k after)
   pub ideal : SameIdeal n (rows n table) (firstRows n k after)
+  -- any complete table of the same ideal has all these rows
+  pub smallest : (K : Table) → OfSize n K → Complete n K → SameIdeal n (rows n table) K → (u : Monomial) → u ∈ firstRows n k after → u ∈ K
   pub behind : drop (k * n) after ≡ drop (k * n) buffer
 
 -- what stands in the buffer after accepted marks: of row r's byte, bit j is set exactly when variable j + 1 is multiplicative for the row

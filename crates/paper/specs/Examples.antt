@@ -11,15 +11,16 @@ use Prim.Native.Nat.{ℕ}
 use lib.IntN.{pos}
 use lib.ListN.{length}
 use Rattle.terms.specs.Monomials.{Monomial}
-use Rattle.terms.specs.ExampleTables.{tableB, tableC, tableD, bytesD, bundleD, listingD, completedD, tableE, completedE, tableF, completedF, tableI, completedI}
+use Rattle.terms.specs.ExampleTables.{tableB, tableC, tableD, bytesD, bundleD, listingD, completedD, tableE, completedE, tableF, completedF, tableI}
+use Rattle.terms.specs.ExampleTables.{completedI}
 use Rattle.terms.specs.Order.{Ascending}
 use Rattle.division.specs.Janet.{Complete, tableMarks}
 use Rattle.division.specs.Descent.{Descent, descent}
 use Rattle.completion.specs.Completed.{CompletedTable}
-use Rattle.completion.specs.Operation.{CompletePromise}
-use Rattle.completion.specs.declared.CompleteAnswer.{CompleteAnswer}
-use Rattle.completion.specs.declared.CompleteAnswer.the-variants.{Rows, Refused}
-use Rattle.counting.specs.Counts.{countAt, polynomialAt, steadyOf}
+use Rattle.completing.specs.Operation.{CompletePromise}
+use Rattle.completing.specs.declared.CompleteAnswer.{CompleteAnswer}
+use Rattle.completing.specs.declared.CompleteAnswer.the-variants.{Rows, Refused}
+use Rattle.counts.specs.Counts.{countAt, polynomialAt, steadyOf}
 use Rattle.listing.specs.Text.{bundleText}
 
 -- a descent gives this row number, in so many steps

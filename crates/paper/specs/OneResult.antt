@@ -8,14 +8,14 @@ use mathlib.Core.List.{List}
 use Prim.Native.Nat.{ℕ}
 use lib.IntN.{ℤ}
 use denote.Ref.{RefT}
-use Rattle.division.specs.Marking.{MarksPromise}
-use Rattle.division.specs.Inside.{InsidePromise}
-use Rattle.division.specs.Finding.{FindPromise}
-use Rattle.division.specs.declared.marking.MarksAnswer.{MarksAnswer}
-use Rattle.division.specs.declared.inside.InsideAnswer.{InsideAnswer}
-use Rattle.division.specs.declared.finding.FindAnswer.{FindAnswer}
-use Rattle.completion.specs.Operation.{CompletePromise}
-use Rattle.completion.specs.declared.CompleteAnswer.{CompleteAnswer}
+use Rattle.marking.specs.Operation.{MarksPromise}
+use Rattle.inside.specs.Operation.{InsidePromise}
+use Rattle.finding.specs.Operation.{FindPromise}
+use Rattle.marking.specs.declared.MarksAnswer.{MarksAnswer}
+use Rattle.inside.specs.declared.InsideAnswer.{InsideAnswer}
+use Rattle.finding.specs.declared.FindAnswer.{FindAnswer}
+use Rattle.completing.specs.Operation.{CompletePromise}
+use Rattle.completing.specs.declared.CompleteAnswer.{CompleteAnswer}
 use Rattle.counting.specs.Operations.{CountPromise, PolynomialPromise, SteadyPromise}
 use Rattle.counting.specs.declared.CountAnswer.{CountAnswer}
 use Rattle.counting.specs.declared.PolynomialAnswer.{PolynomialAnswer}

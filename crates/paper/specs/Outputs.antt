@@ -2,25 +2,32 @@
 --
 --   ValueDemand     inside gives the first row that divides, polynomial and steady what rules 8 and 9 say
 --   ExportDemand    an exported function returns the operation's number; beside a refusal lent bytes stay and the numbers out are 0
+--   RowDemand       65,535 out of inside and find means exactly that there is no row: any other number is below 4,096, and is the row
 --   TableText b j H   part j of the output is the text of the completed table H, or the line that says that there is no room for it
 --   ListingDemand   what the library makes for `janet` to write: part j of an accepted bundle is the text of rule 5's table of table j, a
 --                   refused bundle has the line of its refusal, and the parts are the whole
 use mathlib.Core.Path.{_≡_}
 use mathlib.Core.List.{List}
+use mathlib.Core.Logic.{_↔_}
 use Prim.Native.Nat.{ℕ, _≤_, _<_}
 use lib.IntN.{ℤ, pos}
 use lib.ListN.{length, take}
 use Rattle.terms.specs.Monomials.{Table}
+use Rattle.terms.specs.Ideal.{Inside}
 use Rattle.terms.specs.Rows.{rows}
-use Rattle.terms.specs.Refusals.{Accepts, Refuses}
-use Rattle.division.specs.Marking.{marksChecks}
-use Rattle.division.specs.Inside.{InsidePromise, insideChecks, insideNumber, insideRow, DividesFirst}
-use Rattle.division.specs.Finding.{findChecks}
-use Rattle.division.specs.declared.inside.InsideAnswer.{InsideAnswer}
+use Rattle.checks.specs.Refusals.{Accepts, Refuses}
+use Rattle.marking.specs.Operation.{marksChecks}
+use Rattle.inside.specs.Operation.{InsidePromise, insideChecks, insideNumber, insideRow}
+use Rattle.inside.specs.FirstDividing.{FirstDividing, DividesFirst}
+use Rattle.division.specs.Cones.{DivisorAt}
+use Rattle.division.specs.Janet.{Multiplicative}
+use Rattle.finding.specs.Operation.{findChecks}
+use Rattle.inside.specs.declared.InsideAnswer.{InsideAnswer}
 use Rattle.completion.specs.Completed.{CompletedTable}
-use Rattle.completion.specs.Operation.{completeChecks}
-use Rattle.counting.specs.Counts.{polynomialAt, steadyOf}
-use Rattle.counting.specs.Operations.{PolynomialPromise, SteadyPromise, countChecks, steadyChecks, polynomialNumber, polynomialValue, steadyNumber, steadyValue}
+use Rattle.completing.specs.Operation.{completeChecks}
+use Rattle.counts.specs.Counts.{polynomialAt, steadyOf}
+use Rattle.counting.specs.Operations.{PolynomialPromise, SteadyPromise, countChecks, steadyChecks, polynomialNumber, polynomialValue, steadyNumber}
+use Rattle.counting.specs.Operations.{steadyValue}
 use Rattle.counting.specs.declared.PolynomialAnswer.{PolynomialAnswer}
 use Rattle.counting.specs.declared.SteadyAnswer.{SteadyAnswer}
 use Rattle.bundle.specs.Format.{variablesOf, tableOf}
@@ -55,6 +62,13 @@ pub record ExportDemand : Type 1 where
       → Settled (steadyChecks n table) number × (0 < number → degree ≡ 0)
   pub opened : (bundle : List ℕ) (j number n count offset : ℕ) → OpenExport bundle j number n count offset
       → Settled (openChecks bundle j) number × (0 < number → (n ≡ 0) × (count ≡ 0) × (offset ≡ 0))
+
+pub record RowDemand : Type 0 where
+  pub inside : (n : ℕ) (table query : List ℕ) (number row : ℕ) → InsideExport n table query number row → number ≡ 0
+      → ((row ≡ 65535) ↔ (Inside (rows n table) query → ⊥)) × ((row ≡ 65535 → ⊥) → (row < 4096) × FirstDividing (rows n table) query row)
+  pub find : (n : ℕ) (table query : List ℕ) (number row steps : ℕ) → FindExport n table query number row steps → number ≡ 0
+      → ((row ≡ 65535) ↔ ((r : ℕ) → DivisorAt Multiplicative (rows n table) r query → ⊥))
+      × ((row ≡ 65535 → ⊥) → (row < 4096) × DivisorAt Multiplicative (rows n table) row query)
 
 pub record TableText (b : List ℕ) (j : ℕ) (H : Table) : Type 0 where
   pub room : length H ≤ 4096 → partText b j ≡ completedText (variablesOf b) j (length (tableOf b j)) H

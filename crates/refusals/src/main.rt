@@ -24,11 +24,11 @@ fn lengths() {
 
 // more than 4,096 rows, before large entries
 fn counts() {
-    show(1, &[0u8; 4097]);
+    show(1, &[0u8; 4096 + 1]);
     show(1, &[255u8; 4097]);
     show(2, &[50u8; 8194]);
     show(1, &[50u8; 4096]);
-    show(6, &[0u8; 24576]);
+    show(6, &[0u8; 4096 * 6]);
 }
 
 // entries above 50
@@ -36,7 +36,7 @@ fn entries() {
     show(1, b"\x32");
     show(1, b"\x33");
     show(2, b"\x00\xff");
-    show(6, &[51u8; 24576]);
+    show(6, &[51u8; 4096 * 6]);
 }
 
 fn main() {

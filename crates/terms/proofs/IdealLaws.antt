@@ -15,7 +15,8 @@ use native.Mathlib.Decide.{decLe, decLt, ℕ-discrete}
 use native.Mathlib.Omega.{arith}
 use lib.Dec.{eqb}
 use lib.ListN.{length}
-use Rattle.terms.specs.Tests.{Tests, decide, tests-as, tests-same, tests-le, tests-eq, tests-each, tests-any}
+use Rattle.checks.specs.Tests.{Tests}
+use Rattle.checks.proofs.TestLaws.{decide, tests-as, tests-same, tests-le, tests-eq, tests-each, tests-any}
 use Rattle.terms.specs.Monomials.{Monomial, Table, _!_, _∈_}
 use Rattle.terms.specs.Ideal.{Divides, Inside, SameIdeal, FirstFailure, dividesTest, insideTest}
 use Rattle.terms.proofs.MonomialLaws.{beyond, positive}

@@ -3,5 +3,6 @@ pub mod MonomialLaws
 pub mod IdealLaws
 pub mod OrderLaws
 pub mod RowsLaws
-pub mod RefusalLaws
+pub mod TableLaws
 pub mod LoopLaws
+pub mod Examples

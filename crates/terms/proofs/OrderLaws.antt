@@ -1,6 +1,7 @@
 -- Laws of the order of rows.
 --
 --   precedes-irreflexive, precedes-trans   the order is strict
+--   not-after-trans, not-after-none        'not after' is transitive, and a row that is not after another does not come behind it
 --   tests-precedes, tests-ascending        the tests agree with the order
 --   ascending-between      in an ascending table an earlier row precedes a later one
 --   ascending-unique       two ascending tables with the same rows are equal
@@ -13,9 +14,10 @@ use native.Mathlib.Nat.{not-suc-le-zero, le-of-suc-le-suc, eq-or-lt-of-le}
 use native.Mathlib.Decide.{decLt}
 use native.Mathlib.Omega.{arith}
 use lib.ListN.{length}
-use Rattle.terms.specs.Tests.{Tests, tests-as, tests-and, tests-or, tests-lt, tests-eq}
+use Rattle.checks.specs.Tests.{Tests}
+use Rattle.checks.proofs.TestLaws.{tests-as, tests-and, tests-or, tests-lt, tests-eq}
 use Rattle.terms.specs.Monomials.{Monomial, Table, _!_, _∈_, rowAt, SameBefore}
-use Rattle.terms.specs.Order.{Precedes, Ascending, Compares, precedesTest, ascendingTest}
+use Rattle.terms.specs.Order.{Precedes, NotAfter, Ascending, Compares, precedesTest, ascendingTest}
 use Rattle.terms.specs.declared.Order.{Order}
 use Rattle.terms.specs.declared.Order.the-variants.{Less, Equal, Greater}
 use Rattle.terms.proofs.MonomialLaws.{before-first}
@@ -34,6 +36,17 @@ precedes-trans {u} {v} {w} a b = by-cases (decLt (b .at) (a .at))
     let e : b .at ≡ a .at = omega arith in
     let f : v ! (a .at) < w ! (a .at) = subst (λ (k : ℕ). v ! k < w ! k) e (b .less) in
     record { at = a .at; same = λ j t. a .same j t ∙ b .same j (omega arith); less = omega (arith, a .less) }))
+
+-- ---- not after
+
+pub not-after-trans : {u v w : Monomial} → NotAfter u v → NotAfter v w → NotAfter u w
+not-after-trans {w = w} (inl e) b = subst (λ (x : Monomial). NotAfter x w) (sym e) b
+not-after-trans {u = u} (inr p) (inl e) = inr (subst (λ (x : Monomial). Precedes u x) e p)
+not-after-trans (inr p) (inr q) = inr (precedes-trans p q)
+
+pub not-after-none : {u v : Monomial} → NotAfter u v → Precedes v u → ⊥
+not-after-none {v = v} (inl e) q = precedes-irreflexive v (subst (λ (x : Monomial). Precedes v x) e q)
+not-after-none {u = u} (inr p) q = precedes-irreflexive u (precedes-trans p q)
 
 -- ---- the tests
 

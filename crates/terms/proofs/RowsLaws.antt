@@ -5,7 +5,8 @@
 --   member-at, member-index   a row by its number, and the number of a row
 --   row-fits               a row below the count lies within the bytes
 --   zeros-at               each byte of an array of zeros is 0
---   padded-at, length-padded   a padded row has the exponents of the row, and six of them
+--   padded-at        a padded row has the exponents of the row
+--   row-read, row-variables   a row that was read from a table has its exponents and its n
 --   entry-at               an exponent of a row is a byte of the table
 use mathlib.Core.Path.{_≡_, refl, sym, ap, _∙_}
 use mathlib.Core.List.{List, [], _∷_, _++_, append-assoc, append-nil, List·Memᴰ, List·Memᴰ·head, List·Memᴰ·tail, List·Memᴰ·cases-cons, List·Memᴰ·not-nil}
@@ -17,7 +18,8 @@ use native.Mathlib.Omega.{arith}
 use lib.ListN.{set, length, getD, take, drop, replicate, length-append, length-drop, length-replicate, getD-replicate, List·getD-append, List·getD-eq-default}
 use lib.Seq.{paste, getD-take, getD-drop, getD-append-add, length-take-le, drop-drop, take-at, drop-at, take-all, take-add}
 use Rattle.terms.specs.Monomials.{Monomial, Table, _!_, rowAt, OfSize}
-use Rattle.terms.specs.Rows.{firstRows, rows, flat, padded, putRow}
+use Rattle.terms.specs.Rows.{firstRows, rows, flat, padded, asRow, monomialOf, putRow}
+use Rattle.terms.specs.declared.Row.{Row}
 use Rattle.terms.proofs.MonomialLaws.{beyond}
 
 -- ---- numbers
@@ -134,10 +136,6 @@ flat-rows n t e = flat-firstRows n (length t / n) t ∙ take-all (length t / n *
 
 -- ---- padded rows
 
-pub length-padded : (u : Monomial) → length u ≤ 6 → length (padded u) ≡ 6
-unfolding padded
-length-padded u h = rw (length-append, length-replicate) (omega arith)
-
 pub zeros-at : (k i : ℕ) → _≡_ {A = ℕ} (getD (replicate k 0) i 0) 0
 zeros-at k i = by-cases (decLt i k)
     (λ l. getD-replicate k i 0 0 l)
@@ -154,6 +152,15 @@ padded-at u (suc i) = by-cases (decLt i (length u))
     ∙ getD-append-add u (replicate (6 - length u) 0) (i - length u) 0
     ∙ zeros-at (6 - length u) (i - length u)
     ∙ sym (beyond u (suc i) (omega arith)))
+
+-- a row that was read has the exponents of the row, and its n
+pub row-read : (n : ℕ) (w : Monomial) {u : Row} → u ≡ asRow n w → length w ≡ n → monomialOf u ≡ w
+unfolding asRow padded
+row-read n w e h = rw e (take-at w (replicate (6 - length w) 0) n h)
+
+pub row-variables : (n : ℕ) (w : Monomial) {u : Row} → u ≡ asRow n w → u .n ≡ n
+unfolding asRow
+row-variables n w e = rw e
 
 -- the same of the row behind row r
 pub next-entry-at : (n : ℕ) (t : List ℕ) (r i : ℕ) → suc r < length (rows n t) → i < n → rowAt (rows n t) (suc r) ! suc i ≡ getD t (r * n + n + i) 0

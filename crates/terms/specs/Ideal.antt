@@ -13,7 +13,7 @@ use mathlib.Core.Logic.{_⊎_}
 use Prim.Native.Nat.{ℕ, _≤_, _<_}
 use lib.Dec.{leb}
 use lib.ListN.{length}
-use Rattle.terms.specs.Tests.{each, any}
+use Rattle.checks.specs.Tests.{each, any}
 use Rattle.terms.specs.Monomials.{Monomial, Table, _!_, _∈_}
 
 abbrev pub Divides : Monomial → Monomial → Type 0

@@ -9,11 +9,13 @@
 --   SameBefore i u v   u and v are equal in variables 1 to i − 1
 --   times u i k      u times variable i to the power k
 --   AtMost b u       no exponent of u is above b
+--   LargestOf l r    r is the largest of the numbers l, 0 for none
 --   degree u         the total degree of u
 --
 -- Since each exponent past the last variable reads as 0, a rule over 'each variable' needs no bound.
 use mathlib.Core.Path.{_≡_}
 use mathlib.Core.List.{List, [], _∷_, List·Memᴰ}
+use mathlib.Core.Logic.{_⊎_}
 use Prim.Native.Nat.{ℕ, zero, suc, _+_, _≤_, _<_}
 use lib.ListN.{length, getD, set}
 
@@ -47,6 +49,10 @@ AtMost b u = (i : ℕ) → u ! i ≤ b
 abbrev pub times : Monomial → ℕ → ℕ → Monomial
 times u zero k = u
 times u (suc i) k = set u i (u ! suc i + k)
+
+pub record LargestOf (l : List ℕ) (r : ℕ) : Type 0 where
+  pub bound : (e : ℕ) → List·Memᴰ e l → e ≤ r
+  pub reached : (r ≡ 0) ⊎ List·Memᴰ r l
 
 unfoldable pub degree : Monomial → ℕ
 degree [] = 0

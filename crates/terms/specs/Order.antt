@@ -1,6 +1,7 @@
 -- The order of rows: the first variable decides, then the next.
 --
 --   Precedes u v     u comes before v: at the first variable where they differ u has less
+--   NotAfter u v     u is v or precedes it
 --   Ascending G      G ascends strictly: each row precedes the next
 --   Compares o u v   what the answer o of a comparison of u with v says
 --
@@ -8,6 +9,7 @@
 use mathlib.Core.Path.{_≡_}
 use mathlib.Core.Bool.{Bool, true, false, _&&_, _||_}
 use mathlib.Core.List.{[], _∷_}
+use mathlib.Core.Logic.{_⊎_}
 use Prim.Native.Nat.{ℕ, suc, _<_}
 use lib.Dec.{ltb, eqb}
 use lib.ListN.{length}
@@ -19,6 +21,9 @@ pub record Precedes (u v : Monomial) : Type 0 where
   pub at : ℕ
   pub same : SameBefore at u v
   pub less : u ! at < v ! at
+
+abbrev pub NotAfter : Monomial → Monomial → Type 0
+NotAfter u v = (u ≡ v) ⊎ Precedes u v
 
 abbrev pub Ascending : Table → Type 0
 Ascending G = (r : ℕ) → suc r < length G → Precedes (rowAt G r) (rowAt G (suc r))

@@ -5,6 +5,7 @@
 --   flat G           the rows of G end to end: the one place where rows become bytes
 --   padded u         u with zeros for the exponents that it lacks of six
 --   asRow n u        u as the record that is passed about: six exponents and n
+--   monomialOf r     the monomial that a record is: its first n exponents
 --   putRow n k u bytes    the bytes with the first n exponents of u in the place of row k
 use mathlib.Core.List.{List, [], _∷_, _++_}
 use Prim.Native.Nat.{ℕ, zero, suc, _*_, _-_, _/_}
@@ -31,6 +32,9 @@ padded u = u ++ replicate (6 - length u) 0
 unfoldable pub asRow : ℕ → Monomial → Row
 unfolding padded
 asRow n u = record { exponents = padded u; n = n }
+
+abbrev pub monomialOf : Row → Monomial
+monomialOf r = take (r .n) (r .exponents)
 
 unfoldable pub putRow : ℕ → ℕ → Monomial → List ℕ → List ℕ
 putRow n k u bytes = paste bytes (k * n) u n

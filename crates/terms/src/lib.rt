@@ -1,20 +1,21 @@
 // What every operation stands on: a row by value, the three counters, rows of a flat table, divisibility, the order
 // of rows, and the checks 1 to 4 that all operations on a table share.
 ghost use mathlib.Core.Path.{_≡_};
-ghost use Prim.Native.Nat.{ℕ, suc, _+_, _*_, _≤_, _<_};
+ghost use Prim.Native.Nat.{suc, _+_, _*_, _≤_, _<_};
 ghost use lib.Dec.{ltb};
-ghost use lib.ListN.{length};
-ghost use Rattle.terms.specs.Tests.{any};
-ghost use Rattle.terms.specs.Monomials.{_!_, rowAt};
+ghost use lib.ListN.{length, take, drop};
+ghost use Rattle.checks.specs.Tests.{any};
+ghost use Rattle.terms.specs.Monomials.{_!_, rowAt, LargestOf};
 ghost use Rattle.terms.specs.Ideal.{FirstFailure, dividesTest};
 ghost use Rattle.terms.specs.Order.{Compares, precedesTest, ascendingTest};
 ghost use Rattle.terms.specs.Rows.{rows, asRow, putRow};
-ghost use Rattle.terms.specs.Refusals.{refusal, tableChecks};
+ghost use Rattle.checks.specs.Refusals.{refusal};
+ghost use Rattle.terms.specs.TableChecks.{tableChecks};
 
 // The most rows that a table may have, and the largest entry.
 pub const MOST_ROWS: usize = 4096;
 
-pub const LARGEST_ENTRY: u8 = 50;
+const LARGEST_ENTRY: u8 = 50;
 
 // A row: its six exponents, of which the first n count and the others are 0.
 pub struct Row {
@@ -38,24 +39,37 @@ pub enum Order {
     Greater,
 }
 
-// Row k of a table.
-pub fn row_at(table: &[u8], n: usize, k: RowNumber) -> Row
+// The byte at a place of the row of n bytes from `base` on, 0 past its end.
+fn byte_or_zero(n: usize, table: &[u8], base: usize, place: usize) -> u8
+    requires { ⌜ base + n ≤ length (now table) ⌝ }
+    ensures { λ r. ⌜ r ≡ take n (drop base (now (table .entry))) ! suc place ⌝ }
+{
+    if place < n {
+        return table[base + place];
+    }
+    0
+}
+
+// Row k of a table. It is read byte by byte without a loop, since the compiler makes of a loop a call that copies memory, which costs more.
+pub fn row_at(n: usize, table: &[u8], k: RowNumber) -> Row
     requires { ⌜ (n ≤ 6) × (k .0 < length (rows n (now table))) ⌝ }
     ensures { λ r. ⌜ r ≡ asRow n (rowAt (rows n (now (table .entry))) (k .0)) ⌝ }
 {
-    let mut exponents = [0u8; 6];
     let number = k.0;
     let base = number * n;
-    let mut i = 0;
-    while i < n {
-        exponents[i] = table[base + i];
-        i += 1;
-    }
+    let exponents = [
+        byte_or_zero(n, table, base, 0),
+        byte_or_zero(n, table, base, 1),
+        byte_or_zero(n, table, base, 2),
+        byte_or_zero(n, table, base, 3),
+        byte_or_zero(n, table, base, 4),
+        byte_or_zero(n, table, base, 5),
+    ];
     Row { exponents, n }
 }
 
 // The exponent of row k at variable i.
-pub fn exponent(table: &[u8], n: usize, k: RowNumber, i: Variable) -> u8
+pub fn exponent(n: usize, table: &[u8], k: RowNumber, i: Variable) -> u8
     requires { ⌜ (k .0 < length (rows n (now table))) × (0 < i .0) × (i .0 ≤ n) ⌝ }
     ensures { λ r. ⌜ r ≡ rowAt (rows n (now (table .entry))) (k .0) ! (i .0) ⌝ }
 {
@@ -65,7 +79,7 @@ pub fn exponent(table: &[u8], n: usize, k: RowNumber, i: Variable) -> u8
 }
 
 // Row k of a lent buffer becomes r; the other bytes stay.
-pub fn put_row(buffer: &mut [u8], n: usize, k: RowNumber, r: Row)
+pub fn put_row(n: usize, buffer: &mut [u8], k: RowNumber, r: Row)
     requires { ⌜ (n ≤ 6) × (k .0 * n + n ≤ length (now buffer)) ⌝ }
     ensures { λ _. ⌜ now (buffer .exit) ≡ putRow n (k .0) (r .exponents) (now (buffer .entry)) ⌝ }
 {
@@ -78,7 +92,7 @@ pub fn put_row(buffer: &mut [u8], n: usize, k: RowNumber, r: Row)
 }
 
 // The first variable at which u exceeds q, 0 where u divides q.
-pub fn first_failure(u: Row, q: Row) -> Variable
+fn first_failure(u: Row, q: Row) -> Variable
     ensures { λ r. ⌜ FirstFailure (u .exponents) (q .exponents) (r .0) ⌝ }
 {
     let mut i = 0;
@@ -119,7 +133,7 @@ pub fn compare(u: Row, v: Row) -> Order
 }
 
 // Whether row k precedes the next row.
-pub fn precedes_next(table: &[u8], n: usize, k: RowNumber) -> bool
+fn precedes_next(n: usize, table: &[u8], k: RowNumber) -> bool
     requires { ⌜ suc (k .0) < length (rows n (now table)) ⌝ }
     ensures { λ r. ⌜ r ≡ precedesTest (rowAt (rows n (now (table .entry))) (k .0)) (rowAt (rows n (now (table .entry))) (suc (k .0))) ⌝ }
 {
@@ -148,7 +162,7 @@ pub fn ascends(n: usize, table: &[u8]) -> bool
     let count = table.len() / n;
     let mut k = 1;
     while k < count {
-        if !precedes_next(table, n, RowNumber(k - 1)) {
+        if !precedes_next(n, table, RowNumber(k - 1)) {
             return false;
         }
         k += 1;
@@ -156,16 +170,47 @@ pub fn ascends(n: usize, table: &[u8]) -> bool
     true
 }
 
+// The largest of some bytes, 0 for none. It looks at each of them and leaves nowhere, so that the compiler can take many at a time.
+fn largest_of(bytes: &[u8]) -> u8
+    ensures { λ r. ⌜ LargestOf (now (bytes .entry)) r ⌝ }
+{
+    let mut largest: u8 = 0;
+    let mut i = 0;
+    while i < bytes.len() {
+        let entry = bytes[i];
+        if largest < entry {
+            largest = entry;
+        }
+        i += 1;
+    }
+    largest
+}
+
+// The bytes that `has_large_entry` looks at before it asks.
+const STRETCH: usize = 256;
+
+// Where the stretch from a byte on ends.
+fn stretch_end(from: usize, size: usize) -> usize
+    requires { ⌜ from < size ⌝ }
+    ensures { λ r. ⌜ (from < r) × (r ≤ size) ⌝ }
+{
+    if size - from <= STRETCH {
+        return size;
+    }
+    from + STRETCH
+}
+
 // Whether some entry is above 50.
 pub fn has_large_entry(bytes: &[u8]) -> bool
     ensures { λ r. ⌜ r ≡ any (λ e. ltb 50 e) (now (bytes .entry)) ⌝ }
 {
-    let mut i = 0;
-    while i < bytes.len() {
-        if bytes[i] > LARGEST_ENTRY {
+    let mut from = 0;
+    while from < bytes.len() {
+        let end = stretch_end(from, bytes.len());
+        if LARGEST_ENTRY < largest_of(&bytes[from..end]) {
             return true;
         }
-        i += 1;
+        from = end;
     }
     false
 }

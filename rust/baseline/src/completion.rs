@@ -2,7 +2,8 @@
 //!
 //! For each exponent of the first variable, ascending, the tails of the rows with it join the generators of the slices
 //! before. If they enlarge their ideal, the block of rows last written is repeated for the exponents between, and the
-//! block of the enlarged ideal follows. A block is itself a set of generators and takes their place where it is shorter.
+//! block of the enlarged ideal follows. A block is itself a set of generators and takes their place where it is
+//! shorter.
 
 use crate::packed::{any_divides, byte, pack_all, unpack_all};
 use crate::staircase::Staircase;
@@ -173,8 +174,8 @@ fn more(variables: usize, table: &[u64], head: u64, rows: &mut Rows) {
     }
 }
 
-/// Appends the tails where they enlarge the ideal of the generators; says whether they do. Once one of them does, all are
-/// taken: to test each would cost more than what is saved below.
+/// Appends the tails where they enlarge the ideal of the generators; says whether they do. Once one of them does, all
+/// are taken: to test each would cost more than what is saved below.
 fn join(generators: &mut Vec<u64>, added: &[u64], tail: u64) -> bool {
     let grows = added.iter().any(|word| !any_divides(generators, word & tail));
     if grows {

@@ -3,7 +3,8 @@
 use crate::division::{ascending_marks, find_by_descent};
 use crate::packed::{ascends, entries_are_small};
 
-/// The number of monomials of degree at most s outside the ideal; nothing for a table that is not complete and ascending.
+/// The number of monomials of degree at most s outside the ideal; nothing for a table that is not complete and
+/// ascending.
 pub fn count(n: usize, table: &[u8], s: usize) -> Option<u64> {
     let mut marks = vec![0; table.len() / n];
     if !is_valid(n, table) {
@@ -30,18 +31,34 @@ fn is_complete(n: usize, table: &[u8], marks: &[u8]) -> bool {
     })
 }
 
-/// C(n + s, n) without the share of each cone that begins at degree s or below.
-fn cone_sum(n: usize, table: &[u8], marks: &[u8], s: usize) -> u64 {
-    let share = |(row, &mark): (&[u8], &u8)| {
-        let degree: usize = row.iter().map(|&e| usize::from(e)).sum();
-        let marked = mark.count_ones() as usize;
-        if degree > s {
-            0
-        } else {
-            binomial(s - degree + marked, marked)
-        }
+/// C(n + s, n) without the share of each cone that begins at degree s or below. Cones with the same degree and the same
+/// number of marks have the same share, so they are counted first.
+pub fn cone_sum(n: usize, table: &[u8], marks: &[u8], s: usize) -> u64 {
+    let cones = match n {
+        1 => cones_of::<1>(table, marks),
+        2 => cones_of::<2>(table, marks),
+        3 => cones_of::<3>(table, marks),
+        4 => cones_of::<4>(table, marks),
+        5 => cones_of::<5>(table, marks),
+        _ => cones_of::<6>(table, marks),
     };
-    binomial(n + s, n) - table.chunks_exact(n).zip(marks).map(share).sum::<u64>()
+    let mut shares = 0;
+    for (degree, by_marks) in cones.iter().enumerate().take(s + 1).filter(|(_, by_marks)| **by_marks != [0; 8]) {
+        for (marked, &cones) in by_marks.iter().enumerate() {
+            shares += u64::from(cones) * binomial(s - degree + marked, marked);
+        }
+    }
+    binomial(n + s, n) - shares
+}
+
+/// How many cones there are for each degree and number of marks.
+fn cones_of<const N: usize>(table: &[u8], marks: &[u8]) -> [[u16; 8]; 301] {
+    let mut cones = [[0; 8]; 301];
+    for (row, mark) in table.chunks_exact(N).zip(marks) {
+        let degree: usize = row.iter().take(N).map(|&e| usize::from(e)).sum();
+        cones[degree][mark.count_ones() as usize % 8] += 1;
+    }
+    cones
 }
 
 /// C(top, bottom) by its product; each partial product is itself a binomial.

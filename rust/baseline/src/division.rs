@@ -2,8 +2,8 @@
 
 use crate::packed::pack_all;
 
-/// The marks of ascending rows, from the last row to the first. Where a row and the next first differ, the row has no mark;
-/// before that place it has the next row's marks, behind it all. A row that equals the next has its marks.
+/// The marks of ascending rows, from the last row to the first. Where a row and the next first differ, the row has no
+/// mark; before that place it has the next row's marks, behind it all. A row that equals the next has its marks.
 pub fn ascending_marks(n: usize, table: &[u8], marks: &mut [u8]) {
     let all = ((1u32 << n) - 1) as u8;
     let mut next: Option<(&[u8], u8)> = None;
@@ -31,6 +31,11 @@ pub fn unsorted_marks(n: usize, table: &[u8], marks: &mut [u8]) {
     }
 }
 
+/// The first row that divides a query, by a look at each row in turn.
+pub fn first_divisor(n: usize, table: &[u8], query: &[u8]) -> Option<usize> {
+    table.chunks_exact(n).position(|row| row.iter().zip(query).all(|(u, q)| u <= q))
+}
+
 /// The Janet divisor of a query by a look at each row in turn, with the rows' marks at hand.
 pub fn find_by_scan(n: usize, table: &[u8], marks: &[u8], query: &[u8]) -> Option<usize> {
     let is_divisor = |(row, &marks): (&[u8], &u8)| {
@@ -39,8 +44,18 @@ pub fn find_by_scan(n: usize, table: &[u8], marks: &[u8], query: &[u8]) -> Optio
     table.chunks_exact(n).zip(marks).position(is_divisor)
 }
 
-/// The Janet divisor of a query and the number of exponents stepped on, by the descent. Rows ascend, so a group is a range
-/// of rows; the rows with the same exponent are passed by doubling steps.
+/// The same for an n that is known when this is compiled, so that no loop over n is left.
+pub fn find_by_scan_of<const N: usize>(table: &[u8], marks: &[u8], query: &[u8]) -> Option<usize> {
+    let mut wanted = [0; N];
+    wanted.copy_from_slice(query);
+    let is_divisor = |(row, &marks): (&[u8], &u8)| {
+        (0..N).all(|place| row[place] == wanted[place] || (row[place] < wanted[place] && marks >> place & 1 == 1))
+    };
+    table.chunks_exact(N).zip(marks).position(is_divisor)
+}
+
+/// The Janet divisor of a query and the number of exponents stepped on, by the descent. Rows ascend, so a group is a
+/// range of rows; the rows with the same exponent are passed by doubling steps.
 pub fn find_by_descent(n: usize, table: &[u8], query: &[u8]) -> (Option<usize>, usize) {
     let (mut from, mut to, mut steps) = (0, table.len() / n, 0);
     for (place, &wanted) in query.iter().enumerate() {

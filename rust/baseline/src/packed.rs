@@ -1,5 +1,5 @@
-//! Rows packed into 64-bit words: the first variable in the highest byte used, the last in the lowest. Words then compare
-//! as rows do, and one subtraction tests division.
+//! Rows packed into 64-bit words: the first variable in the highest byte used, the last in the lowest. Words then
+//! compare as rows do, and one subtraction tests division.
 
 /// The highest bit of each byte.
 const HIGHEST: u64 = 0x8080_8080_8080_8080;
@@ -46,6 +46,24 @@ fn rows_ascend<const N: usize>(table: &[u8]) -> bool {
 /// No entry is above 50. The largest is taken without an early end, so that many are looked at side by side.
 pub fn entries_are_small(bytes: &[u8]) -> bool {
     bytes.iter().fold(0, |largest, &entry| largest.max(entry)) <= 50
+}
+
+/// The first row of n bytes that divides a query, in words that are made on the way. Entries are at most 50, so what an
+/// exponent of the query has above 127 changes nothing.
+pub fn first_divisor(n: usize, table: &[u8], query: &[u8]) -> Option<usize> {
+    match n {
+        1 => first_row::<1>(table, query),
+        2 => first_row::<2>(table, query),
+        3 => first_row::<3>(table, query),
+        4 => first_row::<4>(table, query),
+        5 => first_row::<5>(table, query),
+        _ => first_row::<6>(table, query),
+    }
+}
+
+fn first_row<const N: usize>(table: &[u8], query: &[u8]) -> Option<usize> {
+    let q = query.iter().fold(0, |word, &exponent| word << 8 | u64::from(exponent.min(127)));
+    table.chunks_exact(N).position(|row| divides(pack::<N>(row), q))
 }
 
 /// Writes words as rows of n bytes to the buffer's front.

@@ -1,5 +1,5 @@
-//! An ideal in the last three variables as a staircase: for each pair of exponents (b, c) the least d with which b c d is
-//! inside. Entering a row and asking for one are quick, and the completed rows can be read off.
+//! An ideal in the last three variables as a staircase: for each pair of exponents (b, c) the least d with which b c d
+//! is inside. Entering a row and asking for one are quick, and the completed rows can be read off.
 
 use crate::completion::Rows;
 use crate::packed::byte;
@@ -11,8 +11,8 @@ const STRIDE: usize = 64;
 /// No exponent is enough.
 const NEVER: u8 = 255;
 
-/// The least last exponent for each pair; it never rises along a line or from line to line. Only as many lines and as much
-/// of each are kept as the rows that enter need.
+/// The least last exponent for each pair; it never rises along a line or from line to line. Only as many lines and as
+/// much of each are kept as the rows that enter need.
 pub struct Staircase {
     least: [u8; SIDE * STRIDE],
     lines: usize,

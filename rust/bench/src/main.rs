@@ -1,14 +1,12 @@
 //! Times of the library, through its archive, beside quick plain Rust (`baseline`) and a naive program (`second`).
 //!
-//! `bench [--janet PATH] [PART ..]`, a part being completion, find, marks, count or open; all of them where none is named.
-//! Each time is the median of several rounds in which all programs take turns, in processor time. The ratio is ours to the
-//! quickest plain program's; a line that ends in OVER breaks its limit. With `--janet` the program is
-//! run whole, timed by the wall, beside the programs `baseline` and `second`, which are looked for beside `bench` itself.
+//! `bench [--janet PATH] [PART ..]`, a part being completion, find, marks, inside, count or open; all of them where
+//! none is named. Each time is the median of several rounds in which all programs take turns, in processor time. The
+//! ratio is ours to the quickest plain program's; a line that ends in OVER breaks its limit. With `--janet` the program
+//! is run whole, timed by the wall, beside the programs `baseline` and `second`, which are looked for beside `bench`
+//! itself.
 
-mod measure;
 mod parts;
-mod print;
-mod tables;
 
 use std::env;
 use std::path::PathBuf;
@@ -18,10 +16,11 @@ use std::process::exit;
 type Part = fn() -> bool;
 
 /// The parts that can be named, in the order in which they are run.
-const PARTS: [(&str, Part); 5] = [
+const PARTS: [(&str, Part); 6] = [
     ("completion", parts::completion),
     ("find", parts::find),
     ("marks", parts::marks),
+    ("inside", parts::inside),
     ("count", parts::count),
     ("open", parts::open),
 ];
@@ -30,7 +29,8 @@ fn main() {
     let mut words: Vec<String> = env::args().skip(1).collect();
     let janet = (words.len() > 1 && words[0] == "--janet").then(|| PathBuf::from(words.drain(..2).nth(1).unwrap()));
     if let Some(unknown) = words.iter().find(|word| PARTS.iter().all(|(name, _)| name != word)) {
-        eprintln!("{unknown} is not known\nusage: bench [--janet PATH] [completion] [find] [marks] [count] [open]");
+        let parts: String = PARTS.iter().map(|(name, _)| format!(" [{name}]")).collect();
+        eprintln!("{unknown} is not known\nusage: bench [--janet PATH]{parts}");
         exit(2);
     }
     let mut kept = true;

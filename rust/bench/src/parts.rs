@@ -1,8 +1,8 @@
 //! The parts of the report. Before a job is timed its results are compared, so that only right programs are measured.
 
-use crate::measure::{hidden, keep, side_by_side, side_by_side_on_the_wall, Job};
-use crate::print::{head, line, time, Limit};
-use crate::tables::{ascending, bundle, completed_near, of_degree, powers, random, Numbers};
+use measure::print::{head, line, time, Limit};
+use measure::tables::{ascending, bundle, completed_near, none_divides, of_degree, powers, random, Numbers};
+use measure::turns::{hidden, keep, side_by_side, side_by_side_on_the_wall, Job};
 use std::io::Write;
 use std::path::Path;
 use std::process::{Command, Stdio};
@@ -176,6 +176,34 @@ fn unsorted_marks(name: &str, n: usize, table: &[u8]) -> bool {
     drop(jobs);
     assert!(buffers[0] == buffers[2] && buffers[1] == buffers[2]);
     line(name, &times, 1, Limit::Seconds(0.05))
+}
+
+/// Inside, where no row divides the query and each row is looked at to its last exponent. The plain programs check the
+/// entries too.
+pub fn inside() -> bool {
+    head("inside, none divides", &["packed", "rows", "second"]);
+    for (n, rows) in [(4, 1024), (4, 2048), (4, 4096), (6, 4096)] {
+        let (table, query) = none_divides(n, rows);
+        assert_eq!(rocaplanh::inside(n, &table, &query), Ok(None));
+        assert_eq!(baseline::packed::first_divisor(n, &table, &query), None);
+        assert_eq!(baseline::division::first_divisor(n, &table, &query), None);
+        let checked = |table: &[u8]| assert!(baseline::packed::entries_are_small(table));
+        let mut jobs: Vec<Job> = vec![
+            Box::new(|| keep(rocaplanh::inside(n, hidden(&table), hidden(&query)))),
+            Box::new(|| {
+                checked(hidden(&table));
+                keep(baseline::packed::first_divisor(n, hidden(&table), hidden(&query)));
+            }),
+            Box::new(|| {
+                checked(hidden(&table));
+                keep(baseline::division::first_divisor(n, hidden(&table), hidden(&query)));
+            }),
+            Box::new(|| keep(second::operations::inside(n, hidden(&table), hidden(&query)))),
+        ];
+        let times = side_by_side(&mut jobs);
+        line(&format!("n={n}, {rows} rows"), &times, 1, Limit::None);
+    }
+    true
 }
 
 /// One count with all its checks.

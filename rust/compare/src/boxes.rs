@@ -1,10 +1,10 @@
 //! Demand 3 on small boxes: a monomial that some given row divides has exactly one Janet divisor among the completed
-//! rows, one that no given row divides has none; and counts by enumeration. Here the archive's own marks decide who is
-//! a Janet divisor, so that marks, completion, find and count must fit together.
+//! rows, one that no given row divides has none; and counts by enumeration. The archive's completed rows, its marks and
+//! its finds are held to the second program, and then to rules 1 and 3 on all monomials of the box.
 
-use crate::random::Random;
 use crate::report::Report;
-use crate::tables::{self, Table};
+use inputs::random::Random;
+use inputs::tables::{self, Table};
 
 /// Tables in turn for n from 1 to 4.
 pub fn all(random: &mut Random, tables: usize, report: &mut Report) {
@@ -48,6 +48,10 @@ fn one_table(given: &Table, report: &mut Report) {
     let full = rocaplanh::completed(n, &given.bytes).expect("small tables fit");
     let mut marks = vec![0; full.len() / n];
     rocaplanh::marks(n, &full, &mut marks).expect("the buffer is long enough");
+    report.same("completed", &full, &tables::completion(given).bytes, given);
+    let mut expected = vec![0; marks.len()];
+    second::operations::marks(n, &full, &mut expected).expect("the buffer is long enough");
+    report.same("marks", &marks, &expected, given);
     let cells = monomials(n, largest);
     let mut outside_by_degree = vec![0u64; usize::from(largest) + 1];
     for q in &cells {
@@ -66,11 +70,12 @@ fn one_table(given: &Table, report: &mut Report) {
 
 /// The number of Janet divisors is 1 inside and 0 outside, find names it, and the steps are within their bound.
 fn one_monomial(n: usize, full: &[u8], marks: &[u8], q: &[u8], inside: bool, report: &mut Report) {
-    let divisors: Vec<usize> =
-        (0..marks.len()).filter(|&row| janet_divides(&full[row * n..(row + 1) * n], marks[row], q)).collect();
-    report.same("number of Janet divisors", &divisors.len(), &usize::from(inside), &(full, q));
+    let divisors = full.chunks(n).zip(marks).filter(|(u, &marks)| janet_divides(u, marks, q)).count();
+    report.same("number of Janet divisors", &divisors, &usize::from(inside), &(full, q));
     let found = rocaplanh::find(n, full, q).expect("completed rows ascend");
-    report.same("find", &found.row, &divisors.first().copied(), &(full, q));
+    let expected = second::operations::find(n, full, q).expect("completed rows ascend");
+    report.same("find", &(found.row, found.steps), &(expected.row, expected.steps), &(full, q));
+    report.same("find inside", &found.row.is_some(), &inside, &(full, q));
     let degree: usize = q.iter().map(|&e| usize::from(e)).sum();
     report.holds("steps are at most degree plus n", found.steps <= degree + n, &(full, q));
 }

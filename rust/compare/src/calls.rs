@@ -1,21 +1,21 @@
 //! Random calls of every operation, each answered by the archive and by the second program.
 //!
 //! - `many`: calls on short tables, with long and damaged ones among them.
+//! - `limits`: tables of bundles at the limits and past them.
 //! - `large`: for n from 3 to 6, tables whose completion has more than 500 rows, under every operation.
 
-use crate::bundles;
-use crate::call::{by_archive, by_second, Answer, Call};
-use crate::random::Random;
+use crate::call::{by_archive, by_second, Call};
 use crate::report::Report;
-use crate::tables::{self, Table};
 use crate::tally::Tally;
+use inputs::bundles;
+use inputs::random::Random;
+use inputs::tables::{self, Table};
 
 /// Makes a call both ways, compares all that it leaves behind, and counts it.
-fn compare(call: Call, report: &mut Report, tally: &mut Tally) -> Answer {
+fn compare(call: Call, report: &mut Report, tally: &mut Tally) {
     let expected = by_second(&call);
     report.same("call", &by_archive(&call), &expected, &call);
     tally.add(&call, &expected);
-    expected
 }
 
 /// As many random calls as wanted.
@@ -184,6 +184,15 @@ fn open_call(random: &mut Random) -> Call {
     Call::Open { bundle, table }
 }
 
+/// Opens tables of the bundles at the limits and past them.
+pub fn limits(report: &mut Report, tally: &mut Tally) {
+    for bundle in bundles::at_limits() {
+        for table in [0, 1, 2, 15, 16, 17] {
+            compare(Call::Open { bundle: bundle.clone(), table }, report, tally);
+        }
+    }
+}
+
 /// For each n from 3 to 6, tables until `wanted` of them have been completed to more than 500 rows.
 pub fn large(random: &mut Random, wanted: usize, report: &mut Report, tally: &mut Tally) {
     for n in 3..=6 {
@@ -206,8 +215,7 @@ fn every_operation(random: &mut Random, given: &Table, report: &mut Report, tall
         return;
     }
     let long = length + random.between(1, 5000);
-    let kept = compare(Call::Complete { n, table: given.bytes.clone(), buffer: long }, report, tally);
-    report.same("row count", &(kept.numbers[0] as usize), &full.rows(), given);
+    compare(Call::Complete { n, table: given.bytes.clone(), buffer: long }, report, tally);
     if full.rows() <= 500 {
         return;
     }

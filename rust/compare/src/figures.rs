@@ -76,7 +76,7 @@ fn f_to_j(report: &mut Report) {
 fn k_to_m(report: &mut Report) {
     report.same("K: completed", &completed(6, &[50; 6]), &Ok(vec![50; 6]), &"K");
     report.same("K: marks", &marked(6, &[50; 6]), &vec![63], &"K");
-    let powers = |n: usize| crate::bundles::powers(n).bytes;
+    let powers = |n: usize| inputs::bundles::powers(n).bytes;
     report.same("L: n = 3", &completed(3, &powers(3)).map(|rows| rows.len() / 3), &Ok(2551), &"L");
     report.same("L: n = 4", &number(completed(4, &powers(4))), &8, &"L");
     report.same("M: degree 300", &count(1, &[50], 300), &Ok(50), &"M");
@@ -87,7 +87,7 @@ fn k_to_m(report: &mut Report) {
     report.same("M: entry 51", &number(completed(1, &[51])), &4, &"M");
 }
 
-/// Document 002, Table 1: the Janet marks of x1²x3, x1x2, x1x3², in that order, and the Janet completion given below it.
+/// Document 002, Table 1: the Janet marks of x1²x3, x1x2, x1x3², in that order, and the completion given below it.
 fn document_002(report: &mut Report) {
     let table = digits(&["201", "110", "102"]);
     report.same("002, Table 1: marks", &marked(3, &table), &vec![7, 6, 4], &"Table 1");

@@ -1,24 +1,23 @@
 //! Compares the proved library, through its archive, and the program `janet` with the second program.
 //!
-//! `compare --janet PATH` runs all comparisons; the last line is `N passed, 0 failed`. A difference prints its input and
-//! ends the run with a failure, and so does a run that was not varied enough to say anything.
+//! `compare --janet PATH` runs all comparisons; the last line is `N passed, 0 failed`. A difference prints its input
+//! and ends the run with a failure, and so does a run that was not varied enough to say anything.
 //!
 //! - `--seed NUMBER`: another run; the seed is printed first.
 //! - `--long`: ten times as many calls, tables and bundles.
 //! - `--without-janet`: the archive only.
 
 mod boxes;
-mod bundles;
 mod call;
 mod calls;
 mod figures;
-mod random;
+mod process;
 mod report;
 mod runs;
-mod tables;
+mod streams;
 mod tally;
 
-use random::Random;
+use inputs::random::Random;
 use report::Report;
 use std::path::PathBuf;
 use std::process::exit;
@@ -46,12 +45,15 @@ fn main() {
     boxes::all(&mut Random::new(wishes.seed ^ 1), 400 * wishes.times, &mut report);
     part("small boxes");
     calls::many(&mut Random::new(wishes.seed ^ 2), 240_000 * wishes.times, &mut report, &mut tally);
+    calls::limits(&mut report, &mut tally);
     part("random calls");
     calls::large(&mut Random::new(wishes.seed ^ 3), 110 * wishes.times, &mut report, &mut tally);
     part("large tables");
     if let Some(program) = &wishes.janet {
         runs::all(program, &mut Random::new(wishes.seed ^ 4), 300 * wishes.times, &mut report);
         part("runs of janet");
+        streams::all(program, &mut Random::new(wishes.seed ^ 5), &mut report);
+        part("runs with other streams");
     }
     tally.print();
     let lacking = tally.lacks();

@@ -1,14 +1,13 @@
-//! Whole runs of the program `janet`: a bundle on standard input, every byte of the listing compared.
+//! Whole runs of the program `janet`: a bundle on standard input, every byte of the listing compared; nothing may stand
+//! on standard error.
 
-use crate::bundles;
-use crate::random::Random;
+use crate::process::{at_once, run, Left};
 use crate::report::Report;
+use inputs::bundles;
+use inputs::random::Random;
 use second::listing::listing;
 use std::collections::BTreeMap;
-use std::io::{self, Write};
 use std::path::Path;
-use std::process::{Command, Stdio};
-use std::thread;
 
 /// What a bundle must give at least once, apart from listings: refusals of bundles and of single tables.
 const REFUSALS: [&str; 7] = ["R 1", "R 3", "R 4", "R 9", "R 10", "R 11", "T R 8"];
@@ -29,11 +28,11 @@ pub fn all(program: &Path, random: &mut Random, wanted: usize, report: &mut Repo
     let others: Vec<Vec<u8>> = (0..wanted).map(|_| any_bundle(random)).collect();
     for bundle in fixed.iter().chain(&others) {
         let expected = listing(bundle);
-        let written = run(program, bundle).unwrap_or_else(|fault| {
+        let left = run(program, at_once(bundle.clone())).unwrap_or_else(|fault| {
             println!("{} cannot be run: {fault}", program.display());
             report.fail()
         });
-        report.same("janet", &String::from_utf8_lossy(&written), &expected.as_str().into(), bundle);
+        report.same("janet", &left, &Left::ended(&expected, ""), bundle);
         seen.add(bundle, &expected);
     }
     seen.print();
@@ -44,35 +43,16 @@ pub fn all(program: &Path, random: &mut Random, wanted: usize, report: &mut Repo
     }
 }
 
-/// What the program writes for a bundle. A program may stop reading where it has seen enough, so a broken pipe is no fault.
-fn run(program: &Path, bundle: &[u8]) -> io::Result<Vec<u8>> {
-    let mut child = Command::new(program).stdin(Stdio::piped()).stdout(Stdio::piped()).spawn()?;
-    let mut input = child.stdin.take().expect("standard input is piped");
-    let bytes = bundle.to_vec();
-    let writer = thread::spawn(move || input.write_all(&bytes));
-    let output = child.wait_with_output()?;
-    let _ = writer.join();
-    if !output.status.success() {
-        return Err(io::Error::new(io::ErrorKind::Other, format!("it ended with {}", output.status)));
-    }
-    Ok(output.stdout)
-}
-
-/// Bundles at the bounds: nothing, the listing of the paper, 65,535 and 65,536 bytes, 16 tables and 17.
+/// Bundles at the limits and past them, the paper's own with every beginning of it, one with tables refused by 8.
 fn fixed(random: &mut Random) -> Vec<Vec<u8>> {
     let full = bundles::full(random);
     let mut beyond = full.clone();
     beyond.push(0);
-    let paper = vec![2, 1, 2, 0, 6, 0, 2, 1, 0, 2];
-    let empty_tables = |count: usize| bundles::pack(3, &vec![Vec::new(); count]);
+    let paper = bundles::paper();
     let cut: Vec<Vec<u8>> = (0..paper.len()).map(|length| paper[..length].to_vec()).collect();
     let powers = bundles::pack(4, &[bundles::powers(4).bytes, vec![1, 2, 3, 4], bundles::powers(4).bytes]);
-    let rows = bundles::pack(1, &[vec![7; 4096], vec![3, 9, 1]]);
-    let too_many = bundles::pack(1, &[vec![7], vec![7; 4097]]);
     assert!(full.len() == second::bundle::MOST_BYTES && second::bundle::tables(&full).is_ok());
-    let mut all = vec![full, beyond, paper, empty_tables(16), empty_tables(17), powers, rows, too_many];
-    all.extend(cut);
-    all
+    [vec![full, beyond, paper, powers], cut, bundles::at_limits()].concat()
 }
 
 /// A sound bundle of several tables, a damaged one, or noise.

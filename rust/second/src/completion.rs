@@ -1,10 +1,11 @@
 //! Rule 5: the completed table, decided beginning by beginning.
 //!
-//! Take a beginning p, the exponents before a place. An ending e (exponents from the place on) is inside when p followed
-//! by e is in the ideal. Rule 5 lets the exponent a > 0 follow p exactly when some ending that begins with a - 1 is outside and
-//! comes inside when that exponent alone is raised. Such an ending w first comes inside at the least exponent of the rows
-//! whose later exponents divide w's; the largest of these numbers, over all w that come inside at all, is the *limit* of p:
-//! exactly the exponents up to it may follow. The smaller w, the later it comes inside, so the rows' own endings suffice as w.
+//! Take a beginning p, the exponents before a place. An ending e (exponents from the place on) is inside when p
+//! followed by e is in the ideal. Rule 5 lets the exponent a > 0 follow p exactly when some ending that begins with
+//! a - 1 is outside and comes inside when that exponent alone is raised. Such an ending w first comes inside at the
+//! least exponent of the rows whose later exponents divide w's; the largest of these numbers, over all w that come
+//! inside at all, is the *limit* of p: exactly the exponents up to it may follow. The smaller w, the later it comes
+//! inside, so the rows' own endings suffice as w.
 //!
 //! - `minimal`: the rows that no other row divides, once each.
 //! - `Beginning`: the exponents chosen so far and the endings that make a row of the ideal.

@@ -18,7 +18,8 @@ pub fn steady(rows: &[Monomial]) -> usize {
     rows.iter().map(degree).max().unwrap_or(0)
 }
 
-/// Rule 8: from the steady degree on the polynomial is the count, and its degree is at most n; so n + 1 counts settle it.
+/// Rule 8: from the steady degree on the polynomial is the count, and its degree is at most n; so n + 1 counts settle
+/// it.
 pub fn polynomial(n: usize, rows: &[Monomial], s: usize) -> i64 {
     let start = steady(rows);
     let counts = running_sums(&outside_by_degree(n, rows, start + n));

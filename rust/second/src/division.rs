@@ -29,8 +29,8 @@ pub fn degree(u: &Monomial) -> usize {
     u.iter().map(|&e| usize::from(e)).sum()
 }
 
-/// Rule 2 for all variables at once. A row `v` shares `u`'s group at each variable up to the first where they differ, so
-/// that one alone can lose its mark through `v`.
+/// Rule 2 for all variables at once. A row `v` shares `u`'s group at each variable up to the first where they differ,
+/// so that one alone can lose its mark through `v`.
 pub fn marks_of(n: usize, rows: &[Monomial], u: &Monomial) -> u8 {
     let mut marks = all_variables(n);
     for v in rows {
@@ -93,7 +93,8 @@ pub struct Found {
     pub steps: usize,
 }
 
-/// The Janet divisor of `q` by rule 3 on each row in turn, with the steps of rule 6. Both rules name a row; they must agree.
+/// The Janet divisor of `q` by rule 3 on each row in turn, with the steps of rule 6. Both rules name a row; they must
+/// agree.
 pub fn find(n: usize, rows: &[Monomial], q: &Monomial) -> Found {
     let row = rows.iter().position(|u| divides(u, q) && janet_divides(u, marks_of(n, rows, u), q));
     let (ended, steps) = descend(n, rows, q);

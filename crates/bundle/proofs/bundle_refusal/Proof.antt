@@ -1,6 +1,6 @@
 -- `bundle_refusal` meets its contract: the layout refuses, or it passes and one pass over what stands behind the header decides 4.
 use Rattle.bundle.proofs.AcceptedLaws.{laid}
-use Rattle.terms.proofs.RefusalLaws.{refuses-first}
+use Rattle.checks.proofs.RefusalLaws.{refuses-first}
 use Rattle.bundle.proofs.ReadLaws.{entry-four, entries-pass}
 use Rattle.bundle.specs.Checks.{layoutChecks}
 use native.Mathlib.Omega.{arith}

@@ -1,5 +1,5 @@
 -- `layout_refusal` meets its contract: the frame refuses, or it passes and the tables decide.
-use Rattle.terms.proofs.RefusalLaws.{refuses-first, passes-first}
+use Rattle.checks.proofs.RefusalLaws.{refuses-first, passes-first}
 use Rattle.bundle.proofs.CheckLaws.{framed}
 use Rattle.bundle.specs.Checks.{frameChecks, tablesChecks, remainChecks}
 use Rattle.bundle.specs.Format.{tableCount}

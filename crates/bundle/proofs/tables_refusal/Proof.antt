@@ -9,10 +9,10 @@ use Rattle.bundle.proofs.tables_refusal.Statement.{statement}
 use Rattle.bundle.proofs.tables_refusal.Tie as tie
 
 abbrev Inv-loop : tie.InvT-loop
-Inv-loop bundle n tables place₀ j₀ place j = Passed bundle tables place j
+Inv-loop n bundle tables place₀ j₀ place j = Passed bundle tables place j
 
 abbrev μ-loop : tie.MeasureT-loop
-μ-loop bundle n tables place₀ j₀ place j = tables - j
+μ-loop n bundle tables place₀ j₀ place j = tables - j
 
 mul-place : tie.Need-mul-place Inv-loop μ-loop
 mul-place c =

@@ -1,7 +1,7 @@
 -- `counting::count` meets its contract: it refuses by the number of its checks; where they pass the table is checked, its marks are written
 -- to the front of a local buffer, and the sum over them is the value.
 use borrow.Author.Needs.{needs}
-use Rattle.counting.proofs.OperationLaws.{can-mark, can-sum, count-refused}
+use Rattle.counting.proofs.OperationLaws.{can-mark, can-sum, count-refused, count-given}
 use Rattle.counting.proofs.count.Statement.{statement}
 use Rattle.counting.proofs.count.Tie as tie
 
@@ -31,7 +31,10 @@ count-sum-requires c κs =
     can-sum (a .n) (a .table .now) (a .s .0) _ (else .before .count-refusal .ensures) (else .if1 .left) _ _ (c .before .before .mark-ascending .ensures)
 
 returns-2 : tie.Need-returns-2
-returns-2 c = search needs
+returns-2 c =
+    let else = c .before .before .before .before .before in
+    let a = else .before .before .before .args in
+    count-given (a .n) (a .table .now) (a .s .0) _ (else .before .count-refusal .ensures) (else .if1 .left) (c .count-sum .result) (c .count-sum .ensures)
 
 pub count-spec : {M : Type 1} → statement M
 count-spec =

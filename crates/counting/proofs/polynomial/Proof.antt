@@ -1,7 +1,7 @@
 -- `counting::polynomial` meets its contract: it refuses by the number of its checks; where they pass the table is checked, its marks are written
 -- to the front of a local buffer, and the sum over them is the value.
 use borrow.Author.Needs.{needs}
-use Rattle.counting.proofs.OperationLaws.{can-mark, can-sum, polynomial-refused}
+use Rattle.counting.proofs.OperationLaws.{can-mark, can-sum, polynomial-refused, polynomial-given}
 use Rattle.counting.proofs.polynomial.Statement.{statement}
 use Rattle.counting.proofs.polynomial.Tie as tie
 
@@ -31,7 +31,12 @@ polynomial-sum-requires c κs =
     can-sum (a .n) (a .table .now) (a .s .0) _ (else .before .count-refusal .ensures) (else .if1 .left) _ _ (c .before .before .mark-ascending .ensures)
 
 returns-2 : tie.Need-returns-2
-returns-2 c = search needs
+returns-2 c =
+    let else = c .before .before .before .before .before in
+    let a = else .before .before .before .args in
+    let p = polynomial-given (a .n) (a .table .now) (a .s .0) _ (else .before .count-refusal .ensures) (else .if1 .left) (c .polynomial-sum .result)
+    (c .polynomial-sum .ensures) in
+    search (needs, p)
 
 pub polynomial-spec : {M : Type 1} → statement M
 polynomial-spec =

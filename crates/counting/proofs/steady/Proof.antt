@@ -13,17 +13,17 @@ returns c =
     let a = c .before .before .before .args in
     steady-refused (a .n) (a .table .now) (c .before .steady-refusal .result) (c .before .steady-refusal .ensures) (c .if1 .taken)
 
-steady-sum-requires : tie.Need-steady-sum-requires
-steady-sum-requires c κs =
+largest-degree-requires : tie.Need-largest-degree-requires
+largest-degree-requires c κs =
     let a = c .before .before .before .args in
     let t = steady-checked (a .n) (a .table .now) (sym (c .before .steady-refusal .ensures) ∙ c .if1 .left) .accepted in
-    (t .some, t .few)
+    (t .some, t .six)
 
 returns-2 : tie.Need-returns-2
 returns-2 c =
     let a = c .before .before .before .before .args in
     let refused = c .before .before .steady-refusal in
-    steady-given (a .n) (a .table .now) (refused .result) (refused .ensures) (c .before .if1 .left) (c .steady-sum .result .0) (c .steady-sum .ensures)
+    steady-given (a .n) (a .table .now) (refused .result) (refused .ensures) (c .before .if1 .left) (c .largest-degree .result .0) (c .largest-degree .ensures)
 
 pub steady-spec : {M : Type 1} → statement M
-steady-spec = tie.close (tie.spec steady-refusal-requires returns steady-sum-requires returns-2)
+steady-spec = tie.close (tie.spec steady-refusal-requires returns largest-degree-requires returns-2)

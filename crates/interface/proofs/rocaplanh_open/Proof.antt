@@ -9,13 +9,13 @@ locate-requires : tie.Need-locate-requires
 locate-requires c κs = search needs
 
 cast-n : tie.Need-cast-n
-cast-n c = record { fits = omega (arith, located-small _ _ _ (c .before .locate .ensures) .variables) }
+cast-n c = record { fits = let small = located-small _ _ _ (c .before .locate .ensures) in omega (arith, small) }
 
 cast-rows : tie.Need-cast-rows
-cast-rows c = record { fits = omega (arith, located-small _ _ _ (c .before .before .locate .ensures) .count) }
+cast-rows c = record { fits = let small = located-small _ _ _ (c .before .before .locate .ensures) in omega (arith, small) }
 
 cast-offset : tie.Need-cast-offset
-cast-offset c = record { fits = omega (arith, located-small _ _ _ (c .before .before .before .locate .ensures) .begins) }
+cast-offset c = record { fits = let small = located-small _ _ _ (c .before .before .before .locate .ensures) in omega (arith, small) }
 
 cast-result : tie.Need-cast-result
 cast-result c = search needs

@@ -12,7 +12,7 @@ array-share-prefix-out : tie.Need-array-share-prefix-out
 array-share-prefix-out c = search needs
 
 slice-aggregate-write-all : tie.Need-slice-aggregate-write-all
-slice-aggregate-write-all c = sym (length-take-le (c .before .part-text .result) (c .before .part-text .last .1 .1 .0) (c .before .part-text .ensures .fits))
+slice-aggregate-write-all c = sym (length-take-le (c .before .part-text .result) (c .before .part-text .last .1 .1 .1 .0) (c .before .part-text .ensures .fits))
 
 write-all-requires : tie.Need-write-all-requires
 write-all-requires c κs = search needs

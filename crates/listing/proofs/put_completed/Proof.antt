@@ -6,7 +6,7 @@ use mathlib.Core.List.{List}
 use Prim.Native.Nat.{ℕ}
 use lib.ListN.{length}
 use Rattle.terms.specs.Rows.{rows}
-use Rattle.listing.proofs.WrittenLaws.{wrote-as}
+use Rattle.text.proofs.WrittenLaws.{wrote-as}
 use Rattle.listing.proofs.TableLaws.{marked-length, marked-text}
 use Rattle.listing.proofs.put_completed.Statement.{statement}
 use Rattle.listing.proofs.put_completed.Tie as tie

@@ -3,8 +3,8 @@ use borrow.Author.Needs.{needs}
 use native.Mathlib.Omega.{arith}
 use mathlib.Core.List.{[], _∷_}
 use lib.ListN.{length-append}
-use Rattle.listing.specs.Text.{decimal, space}
-use Rattle.listing.proofs.WrittenLaws.{wrote-then}
+use Rattle.text.specs.Decimal.{decimal, space}
+use Rattle.text.proofs.WrittenLaws.{wrote-then}
 use Rattle.listing.proofs.put_exponent.Statement.{statement}
 use Rattle.listing.proofs.put_exponent.Tie as tie
 

@@ -5,20 +5,20 @@ use Prim.Native.Nat.{ℕ, _-_, _≤_, _<_}
 use lib.ListN.{length, getD}
 use Rattle.terms.specs.Monomials.{Monomial, rowAt}
 use Rattle.terms.specs.Rows.{rows}
-use Rattle.terms.proofs.RowsLaws.{length-rows, row-size}
+use Rattle.terms.proofs.RowsLaws.{length-rows, row-size, row-read, row-variables}
 use Rattle.listing.specs.Text.{rowLine, rowLines}
-use Rattle.listing.specs.Written.{Wrote}
-use Rattle.listing.proofs.WrittenLaws.{wrote-nothing, wrote-then, wrote-as}
-use Rattle.listing.proofs.TextLaws.{rowLines-next, rowLines-fits, row-read, row-variables}
+use Rattle.text.specs.Written.{Wrote}
+use Rattle.text.proofs.WrittenLaws.{wrote-nothing, wrote-then, wrote-as}
+use Rattle.listing.proofs.TextLaws.{rowLines-next, rowLines-fits}
 use Rattle.listing.proofs.put_rows.Statement.{statement}
 use Rattle.listing.proofs.put_rows.Tie as tie
 
 abbrev Inv-loop : tie.InvT-loop
-Inv-loop out₀ at n table marks count next₀ k₀ out next k =
+Inv-loop n table marks out₀ at count next₀ k₀ out next k =
     (k ≤ count) × (length out ≡ length out₀) × Wrote out₀ at (rowLines (rows n table) marks k) next out
 
 abbrev μ-loop : tie.MeasureT-loop
-μ-loop out₀ at n table marks count next₀ k₀ out next k = count - k
+μ-loop n table marks out₀ at count next₀ k₀ out next k = count - k
 
 div-count : tie.Need-div-count Inv-loop μ-loop
 div-count c = omega arith

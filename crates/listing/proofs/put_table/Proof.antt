@@ -7,7 +7,7 @@ use lib.ListN.{length}
 use Rattle.terms.specs.Monomials.{Table}
 use Rattle.terms.specs.Order.{Ascending}
 use Rattle.terms.specs.Rows.{rows}
-use Rattle.listing.proofs.WrittenLaws.{wrote-as}
+use Rattle.text.proofs.WrittenLaws.{wrote-as}
 use Rattle.listing.proofs.BoundLaws.{tableText-full}
 use Rattle.listing.proofs.TableLaws.{made-rows, made-none, made-text}
 use Rattle.listing.proofs.put_table.Statement.{statement}
@@ -31,15 +31,15 @@ mul-size c =
 
 array-share-prefix-made : tie.Need-array-share-prefix-made
 array-share-prefix-made c =
+    let answer = c .before .before .before .before in
+    let start = answer .before .before .before .before in
+    made-rows (start .pre .0) (answer .complete .ensures) (c .before .count .given .1) .fits
+
+slice-aggregate-completed : tie.Need-slice-aggregate-completed
+slice-aggregate-completed c =
     let answer = c .before .before .before .before .before in
     let start = answer .before .before .before .before in
-    made-rows (start .pre .0) (answer .complete .ensures) (c .before .before .count .given .1) .fits
-
-slice-aggregate-put-completed : tie.Need-slice-aggregate-put-completed
-slice-aggregate-put-completed c =
-    let answer = c .before .before .before .before .before .before in
-    let start = answer .before .before .before .before in
-    sym (made-rows (start .pre .0) (answer .complete .ensures) (c .before .before .before .count .given .1) .size)
+    sym (made-rows (start .pre .0) (answer .complete .ensures) (c .before .before .count .given .1) .size)
 
 put-completed-requires : tie.Need-put-completed-requires
 put-completed-requires c κs =
@@ -48,7 +48,7 @@ put-completed-requires c κs =
     let m = made-rows (start .pre .0) (answer .complete .ensures) (c .before .before .before .count .given .1) in
     let text = made-text (start .args .j) m in (
       m .some,
-      m .few,
+      m .six,
       subst (λ (H : Table). Ascending H) (sym (m .same)) (m .ascends),
       omega (arith, ap length (m .same), m .limited),
       omega (arith, ap length text, start .pre .1),
@@ -97,7 +97,7 @@ put-table-spec =
     enum-known-count
     mul-size
     array-share-prefix-made
-    slice-aggregate-put-completed
+    slice-aggregate-completed
     put-completed-requires
     enum-told
     put-no-room-line-requires

@@ -4,8 +4,8 @@ use native.Mathlib.Omega.{arith}
 use mathlib.Core.Path.{_≡_, refl}
 use Rattle.terms.specs.Rows.{rows}
 use Rattle.terms.proofs.RowsLaws.{length-rows}
-use Rattle.counting.specs.Counts.{steadyOf}
-use Rattle.listing.proofs.WrittenLaws.{wrote-then, wrote-as}
+use Rattle.counts.specs.Counts.{steadyOf}
+use Rattle.text.proofs.WrittenLaws.{wrote-then, wrote-as}
 use Rattle.listing.proofs.BoundLaws.{wholeText-sum, wholeText-parts}
 use Rattle.listing.proofs.put_whole.Statement.{statement}
 use Rattle.listing.proofs.put_whole.Tie as tie
@@ -34,8 +34,8 @@ put-rows-requires c κs =
     let lengths = wholeText-sum (a .j) H (a .marks .now) (length-rows (a .n) (a .given .now)) (length-rows (a .n) (a .table .now)) same in
     (start .pre .0, start .pre .1, start .pre .2, omega (arith, lengths, first .put-table-line .ensures .ends))
 
-steady-sum-requires : tie.Need-steady-sum-requires
-steady-sum-requires c κs = search needs
+largest-degree-requires : tie.Need-largest-degree-requires
+largest-degree-requires c κs = search needs
 
 put-steady-line-requires : tie.Need-put-steady-line-requires
 put-steady-line-requires c κs =
@@ -44,7 +44,7 @@ put-steady-line-requires c κs =
     let a = first .before .before .before .before .before .before .args in
     let H = rows (a .n) (a .table .now) in
     let lengths = wholeText-sum (a .j) H (a .marks .now)
-    (length-rows (a .n) (a .given .now)) (length-rows (a .n) (a .table .now)) (c .before .steady-sum .ensures) in
+    (length-rows (a .n) (a .given .now)) (length-rows (a .n) (a .table .now)) (c .before .largest-degree .ensures) in
     omega (arith, lengths, first .put-table-line .ensures .ends, second .put-rows .ensures .ends)
 
 same-length : tie.Need-same-length
@@ -59,7 +59,7 @@ returns c =
     let H = rows (a .n) (a .table .now) in
     let upto-second = wrote-then (first .put-table-line .ensures) (omega arith) (second .put-rows .ensures) in
     let upto-third = wrote-then upto-second (omega arith) (third .put-steady-line .ensures) in
-    let steady = third .before .before .steady-sum .ensures in
+    let steady = third .before .before .largest-degree .ensures in
     wrote-as upto-third (wholeText-parts (a .j) H (a .marks .now) (length-rows (a .n) (a .given .now)) (length-rows (a .n) (a .table .now)) steady)
 
 pub put-whole-spec : {M : Type 1} → statement M
@@ -70,7 +70,7 @@ put-whole-spec =
     div-made
     put-table-line-requires
     put-rows-requires
-    steady-sum-requires
+    largest-degree-requires
     put-steady-line-requires
     same-length
     returns)

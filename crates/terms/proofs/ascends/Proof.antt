@@ -7,7 +7,7 @@ use lib.ListN.{length}
 use denote.Ref.{now}
 use native.Mathlib.Nat.{div-le-self}
 use borrow.Author.Tests.{not-true, not-false}
-use Rattle.terms.specs.Tests.{tests-true}
+use Rattle.checks.proofs.TestLaws.{tests-true}
 use Rattle.terms.specs.Monomials.{rowAt}
 use Rattle.terms.specs.Order.{Precedes}
 use Rattle.terms.specs.Rows.{rows}

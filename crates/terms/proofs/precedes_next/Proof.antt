@@ -3,7 +3,7 @@ use native.Mathlib.Omega.{arith}
 use mathlib.Core.Path.{_≡_, refl}
 use Prim.Native.Nat.{ℕ, suc, _-_, _≤_}
 use denote.Ref.{now}
-use Rattle.terms.specs.Tests.{tests-true, tests-false}
+use Rattle.checks.proofs.TestLaws.{tests-true, tests-false}
 use Rattle.terms.specs.Monomials.{_!_, rowAt}
 use Rattle.terms.specs.Rows.{rows}
 use Rattle.terms.proofs.MonomialLaws.{upto-next, upto-zero}
@@ -14,10 +14,10 @@ use Rattle.terms.proofs.precedes_next.Statement.{statement}
 use Rattle.terms.proofs.precedes_next.Tie as tie
 
 abbrev Inv-loop : tie.InvT-loop
-Inv-loop table n number base i₀ i = (i ≤ n) × ((j : ℕ) → j ≤ i → rowAt (rows n table) number ! j ≡ rowAt (rows n table) (suc number) ! j)
+Inv-loop n table number base i₀ i = (i ≤ n) × ((j : ℕ) → j ≤ i → rowAt (rows n table) number ! j ≡ rowAt (rows n table) (suc number) ! j)
 
 abbrev μ-loop : tie.MeasureT-loop
-μ-loop table n number base i₀ i = n - i
+μ-loop n table number base i₀ i = n - i
 
 mul-base : tie.Need-mul-base Inv-loop μ-loop
 mul-base c = omega (arith, two-rows-within (c .args .n) (c .args .table .now) (c .args .k .0) (c .pre))

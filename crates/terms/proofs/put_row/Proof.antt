@@ -12,10 +12,10 @@ use Rattle.terms.proofs.put_row.Statement.{statement}
 use Rattle.terms.proofs.put_row.Tie as tie
 
 abbrev Inv-loop : tie.InvT-loop
-Inv-loop buffer₀ n number base exponents i₀ buffer i = (i ≤ n) × (buffer ≡ paste buffer₀ base exponents i)
+Inv-loop n buffer₀ number base exponents i₀ buffer i = (i ≤ n) × (buffer ≡ paste buffer₀ base exponents i)
 
 abbrev μ-loop : tie.MeasureT-loop
-μ-loop buffer₀ n number base exponents i₀ buffer i = n - i
+μ-loop n buffer₀ number base exponents i₀ buffer i = n - i
 
 mul-base : tie.Need-mul-base Inv-loop μ-loop
 mul-base c = omega arith

@@ -1,79 +1,62 @@
--- The first i exponents are read, and zeros stand behind them.
+-- The row lies within the table, so each of its bytes can be read; six of them, with zeros for those that it lacks, are the row.
 use native.Mathlib.Omega.{arith}
-use mathlib.Core.Path.{_≡_, refl, ap, _∙_}
+use mathlib.Core.Path.{ap}
 use mathlib.Core.List.{List}
-use Prim.Native.Nat.{ℕ, _*_, _-_, _≤_}
+use Prim.Native.Nat.{ℕ, _+_, _*_, _≤_}
+use lib.ListN.{length}
 use denote.Ref.{now}
 use Rattle.terms.specs.declared.Row.{Row}
 use Rattle.terms.specs.Rows.{asRow}
 use Rattle.terms.proofs.RowsLaws.{row-within}
-use Rattle.terms.proofs.LoopLaws.{filled, filled-next, filled-row}
+use Rattle.terms.proofs.LoopLaws.{row-of-six}
 use Rattle.terms.proofs.row_at.Statement.{statement}
 use Rattle.terms.proofs.row_at.Tie as tie
 
 abbrev made : ℕ → List ℕ → Row
 made n w = record { exponents = w; n = n }
 
-abbrev Inv-loop : tie.InvT-loop
-Inv-loop table n exponents₀ number base i₀ exponents i = (i ≤ n) × (exponents ≡ filled table base i)
+within : (s : tie.Start) → s .args .k .0 * s .args .n + s .args .n ≤ length (s .args .table .now)
+within s = row-within (s .args .n) (s .args .table .now) (s .args .k .0) (s .pre .1)
 
-abbrev μ-loop : tie.MeasureT-loop
-μ-loop table n exponents₀ number base i₀ exponents i = n - i
+mul-base : tie.Need-mul-base
+mul-base c = omega (arith, within (c .before))
 
-mul-base : tie.Need-mul-base Inv-loop μ-loop
-mul-base c = omega (arith, row-within (c .args .n) (c .args .table .now) (c .args .k .0) (c .pre .1))
+byte-or-zero-requires : tie.Need-byte-or-zero-requires
+byte-or-zero-requires c κs = within (c .before)
 
-loop-holds : tie.Need-loop-holds Inv-loop μ-loop
-loop-holds c = (omega arith, refl)
+byte-or-zero-requires-2 : tie.Need-byte-or-zero-requires-2
+byte-or-zero-requires-2 c κs = within (c .before .before)
 
-add-exponents : tie.Need-add-exponents Inv-loop μ-loop
-add-exponents c =
-    let s = c .before .before in
-    omega (arith, row-within (s .args .n) (s .args .table .now) (s .args .k .0) (s .pre .1))
+byte-or-zero-requires-3 : tie.Need-byte-or-zero-requires-3
+byte-or-zero-requires-3 c κs = within (c .before .before .before)
 
-shared-slice-read-exponents : tie.Need-shared-slice-read-exponents Inv-loop μ-loop
-shared-slice-read-exponents c =
-    let s = c .before .before .before in
-    omega (arith, row-within (s .args .n) (s .args .table .now) (s .args .k .0) (s .pre .1))
+byte-or-zero-requires-4 : tie.Need-byte-or-zero-requires-4
+byte-or-zero-requires-4 c κs = within (c .before .before .before .before)
 
-array-write-exponents : tie.Need-array-write-exponents Inv-loop μ-loop
-array-write-exponents c = omega arith
+byte-or-zero-requires-5 : tie.Need-byte-or-zero-requires-5
+byte-or-zero-requires-5 c κs = within (c .before .before .before .before .before)
 
-add-i : tie.Need-add-i Inv-loop μ-loop
-add-i c = omega arith
+byte-or-zero-requires-6 : tie.Need-byte-or-zero-requires-6
+byte-or-zero-requires-6 c κs = within (c .before .before .before .before .before .before)
 
-loop-less : tie.Need-loop-less Inv-loop μ-loop
-loop-less c = omega arith
-
-loop-again : tie.Need-loop-again Inv-loop μ-loop
-loop-again c =
-    let s = c .before .before .before in
-    let a = s .args in
-    let l = c .before .before .loop in
-    let w = row-within (a .n) (a .table .now) (a .k .0) (s .pre .1) in
-    (omega arith, rw (l .inv .1) (filled-next (a .table .now) (a .k .0 * a .n) (l .i) (omega arith) (omega arith)))
-
-returns : tie.Need-returns Inv-loop μ-loop
+returns : tie.Need-returns
 unfolding asRow
 returns c =
-    let s = c .before .before in
-    let a = s .args in
-    let e : c .before .loop .i ≡ a .n = omega arith in
-    let x = c .before .loop .inv .1 ∙ ap (λ (i : ℕ). filled (a .table .now) (a .k .0 * a .n) i) e ∙ filled-row (a .n) (a .table .now) (a .k .0) (s .pre .1) in
-    ap (λ (w : List ℕ). made (a .n) w) x
+    let fifth = c .before in let fourth = fifth .before in let third = fourth .before in let second = third .before in let first = second .before in
+    let s = first .before .before in let a = s .args in
+    ap (λ (w : List ℕ). made (a .n) w) (row-of-six (a .n) (a .table .now) (a .k .0) (s .pre .0) (s .pre .1)
+    (first .byte-or-zero .ensures) (second .byte-or-zero2 .ensures) (third .byte-or-zero3 .ensures) (fourth .byte-or-zero4 .ensures)
+    (fifth .byte-or-zero5 .ensures) (c .byte-or-zero6 .ensures))
 
 pub row-at-spec : {M : Type 1} → statement M
 row-at-spec =
     tie.close
     (tie.spec
-    Inv-loop
-    μ-loop
     mul-base
-    loop-holds
-    add-exponents
-    shared-slice-read-exponents
-    array-write-exponents
-    add-i
-    loop-less
-    loop-again
+    byte-or-zero-requires
+    byte-or-zero-requires-2
+    byte-or-zero-requires-3
+    byte-or-zero-requires-4
+    byte-or-zero-requires-5
+    byte-or-zero-requires-6
     returns)

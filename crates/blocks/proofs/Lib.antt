@@ -1,0 +1,5 @@
+-- What the loops over bytes and rows need.
+pub mod ByteLaws
+pub mod BufferLaws
+pub mod RowLaws
+pub mod ChainLaws

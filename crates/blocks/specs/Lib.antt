@@ -1,0 +1,2 @@
+-- Rows and blocks of rows as bytes.
+pub mod Bytes

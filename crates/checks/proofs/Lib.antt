@@ -1,0 +1,3 @@
+-- The laws of tests and of refusals.
+pub mod TestLaws
+pub mod RefusalLaws

@@ -1,0 +1,3 @@
+-- Tests of rules, and refusals by number.
+pub mod Tests
+pub mod Refusals

@@ -1,0 +1,4 @@
+-- What the operation needs, and example J.
+pub mod OperationLaws
+pub mod CollectLaws
+pub mod Examples

@@ -1,0 +1,3 @@
+-- What `complete` promises, and what its inner function does.
+pub mod Operation
+pub mod Collect

@@ -1,0 +1,2 @@
+-- Rules 7 to 9: count, polynomial, steady degree.
+pub mod Counts

@@ -1,0 +1,2 @@
+-- Its laws.
+pub mod RowTestLaws

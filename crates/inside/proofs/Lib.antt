@@ -1,0 +1,4 @@
+-- The laws of both.
+pub mod FirstLaws
+pub mod OperationLaws
+pub mod Examples

@@ -1,0 +1,2 @@
+-- The laws of such lists.
+pub mod OrderingLaws

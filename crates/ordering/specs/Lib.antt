@@ -1,0 +1,2 @@
+-- Rows listed in their order.
+pub mod Ordering

@@ -1,0 +1,4 @@
+-- What the walk needs.
+pub mod AppendLaws
+pub mod ClosingLaws
+pub mod HeadLaws

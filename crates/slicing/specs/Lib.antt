@@ -1,0 +1,2 @@
+-- What the walk over the heads promises.
+pub mod Walk

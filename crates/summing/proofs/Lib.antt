@@ -1,0 +1,2 @@
+-- What the passes over the rows need.
+pub mod PassLaws

@@ -1,0 +1,3 @@
+-- The laws of both.
+pub mod WrittenLaws
+pub mod DecimalLaws

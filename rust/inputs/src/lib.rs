@@ -1,0 +1,9 @@
+//! Random inputs for the comparisons: the same seed gives the same inputs on every machine.
+//!
+//! - `random`: the numbers. `tables`: tables for every operation. `bundles`: bundles of them.
+
+#![warn(missing_docs)]
+
+pub mod bundles;
+pub mod random;
+pub mod tables;

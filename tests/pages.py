@@ -3,7 +3,7 @@
 Where a line of a table names a must-fail edit in its last cell but one, the last says where that edit is refused, as the edit's own file does.
 
 A word in backquotes with a slash is a file, or CRATE/EDIT. Words in parentheses behind a file stand in that file. One that ends in a colon and a
-number is a line, and that line holds the word in backquotes before it. Any other single word occurs in the repository's own files.
+number is a line, and that line defines the word in backquotes before it. Any other single word occurs in the repository's own files.
 Commands, formulas and blocks of code are passed over, and so are names with a part in capitals, which stand for any.
 """
 import glob
@@ -54,14 +54,20 @@ def stands_for_any(name):
     return name.startswith('target/') or any(part.isupper() for part in re.split(r'[/.]', name))
 
 
-def line_holds(root, path, number, before):
-    """Whether a line is there, and holds the word before it if there is one."""
+def definition(name):
+    """What a line looks like that defines the name: its keyword, or its type."""
+    word = re.escape(name)
+    return re.compile(rf'\b(?:fn|struct|enum|const|record) {word}(?![\w-])|^\s*(?:(?:abbrev|unfoldable|pub) )*{word} :')
+
+
+def line_defines(root, path, number, before):
+    """Whether a line is there, and defines the word before it if there is one."""
     file = os.path.join(root, path)
     if not os.path.isfile(file):
         return False
     with open(file, encoding='utf-8') as text:
         lines = text.read().splitlines()
-    return number <= len(lines) and (not WORD.fullmatch(before) or before in WORD.findall(lines[number - 1]))
+    return number <= len(lines) and (not WORD.fullmatch(before) or bool(definition(before).search(lines[number - 1])))
 
 
 def missing(root, line, known):
@@ -70,7 +76,7 @@ def missing(root, line, known):
     for before, token in zip(['', *tokens], tokens):
         numbered = LINE.fullmatch(token)
         if numbered:
-            right = line_holds(root, numbered.group(1), int(numbered.group(2)), before)
+            right = line_defines(root, numbered.group(1), int(numbered.group(2)), before)
         elif PATH.fullmatch(token):
             right = stands_for_any(token) or place(root, token)
         else:

@@ -4,15 +4,17 @@ python3 tools/lines.py, at the root of the repository. The gate holds each such 
 """
 import os
 import re
+import sys
 
 ROOT = os.path.join(os.path.dirname(os.path.abspath(__file__)), '..')
 PAGE = os.path.join(ROOT, 'docs', 'ARCHITECTURE.md')
+sys.path.insert(0, os.path.join(ROOT, 'tests'))
+import pages  # noqa: E402
 
 
 def defined(path, name):
     """The first line of a file that defines the name."""
-    word = re.escape(name)
-    pattern = re.compile(rf'\b(?:fn|struct|enum|const|record) {word}(?![\w-])|^\s*(?:(?:abbrev|unfoldable|pub) )*{word} :|^\s+{word}\(')
+    pattern = pages.definition(name)
     with open(os.path.join(ROOT, path), encoding='utf-8') as file:
         for number, line in enumerate(file, 1):
             if pattern.search(line):

@@ -64,6 +64,11 @@ descend-returns-2 :
     (t : ℕ) → descend-lts.Need-returns-2 (step-below t, step.Post) (descend-at t) descend.Post
 descend-returns-2 t c = search needs
 
+-- ---- `step`: where it walked along the exponents, back to its start
+
+abbrev step-walking : (t : ℕ) → step-lts.After-along (claims t) (step-at t) step.Post → step-lts.Start (claims t) (step-at t) step.Post
+step-walking t c = c .before .before .before .before .before .before
+
 step-sub-most : (t : ℕ) → step-lts.Need-sub-most (claims t) (step-at t) step.Post
 step-sub-most t c = search needs
 
@@ -95,10 +100,11 @@ step-exponent-requires-2 t c κs = search needs
 
 step-returns-2 : (t : ℕ) → step-lts.Need-returns-2 (claims t) (step-at t) step.Post
 step-returns-2 t c =
-    let s = c .before .before .before .before .before .before .before .before .before .before .before .before .before .before in
+    let d = c .before .before .before .before .before .before .before .before in
+    let s = step-walking t d in
     let a = s .args in
     let e = read-at (a .query .now) (a .i .0) (s .pre .1 .1 .variable) in
-    let w = c .before .before .before .before .before .before .before .before .along in
+    let w = d .along in
     let x = w .result in
     let l : x .high .0 < a .hi .0 = omega (arith, c .before .before .if2 .taken) in
     ap descended (run-gap (s .pre .1 .0) (w .ensures .run) l (w .ensures .beyond l) (omega (arith, e, c .if3 .taken, c .before .exponent2 .ensures)))
@@ -108,8 +114,9 @@ step-add-t14 t c = search needs
 
 step-descend-requires : (t : ℕ) → step-lts.Need-descend-requires (claims t) (step-at t) step.Post
 step-descend-requires t c κs =
-    let s = c .before .before .before .before .before .before .before .before .before .before .before .before in
-    let w = c .before .before .before .before .before .before .along in
+    let d = c .before .before .before .before .before .before in
+    let s = step-walking t d in
+    let w = d .along in
     let m = s .pre .0 in (
       omega (arith, w .ensures .run .from, w .ensures .run .last .later, w .ensures .run .last .within),
       (omega (arith, s .pre .1 .0), run-shared (s .pre .1 .0) (w .ensures .run)),
@@ -117,10 +124,11 @@ step-descend-requires t c κs =
 
 step-returns-3 : (t : ℕ) → step-lts.Need-returns-3 (claims t) (step-at t) step.Post
 step-returns-3 t c =
-    let s = c .before .before .before .before .before .before .before .before .before .before .before .before .before in
+    let d = c .before .before .before .before .before .before .before in
+    let s = step-walking t d in
     let a = s .args in
     let e = read-at (a .query .now) (a .i .0) (s .pre .1 .1 .variable) in
-    let w = c .before .before .before .before .before .before .before .along in
+    let w = d .along in
     c .descend .ensures ∙ ap descended (run-down (s .pre .1 .0) (w .ensures .run) (w .ensures .beyond)
     (λ l. ⊎-elim (λ y. omega (arith, e, y .2 .left, y .1 .ensures)) (λ y. omega (arith, y .left)) (c .before .if2 .came)))
 

@@ -20,6 +20,14 @@ Inv-loop n table marks out₀ at count next₀ k₀ out next k =
 abbrev μ-loop : tie.MeasureT-loop
 μ-loop n table marks out₀ at count next₀ k₀ out next k = count - k
 
+-- ---- the places, from later to earlier ones
+
+abbrev entry : tie.At-loop Inv-loop μ-loop → tie.Start Inv-loop μ-loop
+entry c = c .before .before .before .before
+
+abbrev turn : tie.After-put-row-line Inv-loop μ-loop → tie.At-loop Inv-loop μ-loop
+turn c = c .before .before .before .before .before
+
 div-count : tie.Need-div-count Inv-loop μ-loop
 div-count c = omega arith
 
@@ -34,13 +42,14 @@ row-at-requires c κs =
 
 shared-slice-read-put-row-line : tie.Need-shared-slice-read-put-row-line Inv-loop μ-loop
 shared-slice-read-put-row-line c =
-    let a = c .before .before .before .before .before .before .before .before .args in
+    let a = entry (c .before .before .before .before) .args in
     omega (arith, length-rows (a .n) (a .table .now))
 
 put-row-line-requires : tie.Need-put-row-line-requires Inv-loop μ-loop
 put-row-line-requires c κs =
-    let a = c .before .before .before .before .before .before .before .before .args in
-    let l = c .before .before .before .before .loop in
+    let o = c .before .before .before .before in
+    let a = entry o .args in
+    let l = o .loop in
     let H = rows (a .n) (a .table .now) in
     let u = rowAt H (l .k) in
     let e = c .before .before .row-at .ensures in
@@ -51,7 +60,7 @@ put-row-line-requires c κs =
 
 add-k : tie.Need-add-k Inv-loop μ-loop
 add-k c =
-    let a = c .before .before .before .before .before .before .before .before .before .before .before .args in
+    let a = entry (turn (c .before .before)) .args in
     omega (arith, length-rows (a .n) (a .table .now))
 
 loop-less : tie.Need-loop-less Inv-loop μ-loop
@@ -59,8 +68,10 @@ loop-less c = omega arith
 
 loop-again : tie.Need-loop-again Inv-loop μ-loop
 loop-again c =
-    let a = c .before .before .before .before .before .before .before .before .before .before .before .args in
-    let l = c .before .before .before .before .before .before .before .loop in
+    let d = c .before .before in
+    let o = turn d in
+    let a = entry o .args in
+    let l = o .loop in
     let H = rows (a .n) (a .table .now) in
     let u = rowAt H (l .k) in
     let e = c .before .before .before .before .before .row-at .ensures in

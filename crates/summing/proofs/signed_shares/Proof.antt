@@ -69,11 +69,12 @@ loop-less c = search needs
 
 loop-again : tie.Need-loop-again Inv-loop μ-loop
 loop-again c =
-    let start = c .before .before .before .before .before .before .before .before .before .before in
+    let place = c .before .before .before .before .before .before .before in
+    let start = place .before .before .before in
     let G = rows (start .args .n) (start .args .table .now) in
     let marks = start .args .marks .now in
     let s = start .args .s .0 in
-    let before = c .before .before .before .before .before .before .before .loop in
+    let before = place .loop in
     let k = before .k in
     let one = c .before .before .signed-share .result in
     let given = c .before .before .signed-share .ensures .0 in

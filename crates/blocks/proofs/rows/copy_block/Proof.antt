@@ -34,11 +34,13 @@ same-length : tie.Need-same-length
 same-length c = search needs
 
 returns : tie.Need-returns
-returns c = let a = c .before .before .before .before .before .before .before .before .before .before .before .args in
+returns c =
+    let d = c .before .before .before .before .before .before in
+    let a = d .before .before .before .before .before .args in
     again-rows (a .n) (a .i .0 - 1) (a .first .0) (a .count) (a .end .0) (a .e) (a .out .now)
-    (c .before .before .before .before .before .before .copy-within .last .0) (c .before .before .set-column .last .1 .0)
+    (d .copy-within .last .0) (c .before .before .set-column .last .1 .0)
     (omega arith) (omega arith)
-    (c .before .before .before .before .before .before .copy-within .ensures) (c .before .before .set-column .ensures)
+    (d .copy-within .ensures) (c .before .before .set-column .ensures)
 
 pub copy-block-spec : {M : Type 1} → statement M
 copy-block-spec =

@@ -73,8 +73,10 @@ loop-less : tie.Need-loop-less Inv-loop μ-loop
 loop-less c = search needs
 
 loop-again : tie.Need-loop-again Inv-loop μ-loop
-loop-again c = let a = c .before .before .before .before .before .before .before .before .before .before .args in
-    let l = c .before .before .before .before .before .before .loop in
+loop-again c =
+    let o = c .before .before .before .before .before .before in
+    let a = o .before .before .before .before .args in
+    let l = o .loop in
     let k = c .before .before .copy-block in
     let count = a .stop .0 - a .first .0 in
     let S = part (a .n) count (a .first .0 * a .n) (a .out .now) in

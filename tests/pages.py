@@ -4,7 +4,8 @@ Where a line of a table names a must-fail edit in its last cell but one, the las
 
 A word in backquotes with a slash is a file, or CRATE/EDIT. Words in parentheses behind a file stand in that file. One that ends in a colon and a
 number is a line, and that line defines the word in backquotes before it. Any other single word occurs in the repository's own files.
-Commands, formulas and blocks of code are passed over, and so are names with a part in capitals, which stand for any.
+Commands, formulas and blocks of code are passed over, and so are names with a part in capitals, which stand for any; and
+docs/CHANGES.md, which names what was there.
 """
 import glob
 import os
@@ -17,6 +18,7 @@ QUOTED = re.compile(r'`([^`]+)`')
 PATH = re.compile(r'[\w.+*-]+(?:/[\w.+*-]+)+/?')
 LINE = re.compile(r'([\w./+-]+):(\d+)')
 EDIT_ROW = re.compile(r'(?P<before>\|.*\| `(?P<edit>\w+/\w+)` \| )(?P<words>.*) \|')
+HISTORY = 'docs/CHANGES.md'
 FOLDERS = ('crates', 'rust', 'tests', 'tools', 'include', 'examples', '.ci')
 SUFFIXES = ('.rt', '.antt', '.rs', '.py', '.h', '.c', '.sh', '.edit', '.toml', '')
 
@@ -101,7 +103,7 @@ def faults(root):
     known = known_words(root)
     places = {name: edits.named(text) for name, text in edits.edits(root)}
     for page in ['README.md', *sorted(os.path.join('docs', name) for name in os.listdir(os.path.join(root, 'docs')) if name.endswith('.md'))]:
-        if not os.path.isfile(os.path.join(root, page)):
+        if page == HISTORY or not os.path.isfile(os.path.join(root, page)):
             continue
         with open(os.path.join(root, page), encoding='utf-8') as text:
             for number, line in enumerate(text.read().splitlines(), 1):

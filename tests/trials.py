@@ -64,6 +64,7 @@ FAULTS = {
         folder, SOURCE, '    ensures { λ r. ⌜ r ≡ refusal (tableChecks', '    requires { ⌜ n ≤ 6 ⌝ }\n    ensures { λ r. ⌜ r ≡ refusal (tableChecks'),
     'a public operation that is not there': lambda folder: edit(folder, 'docs/PROMISES.md', 'lib.rt', 'other.rt'),
     'a page that names what is not there': lambda folder: write(folder, 'docs/GUIDE.md', 'Read `terms/specs/Nothing`.\n'),
+    'a page that names a line of another thing': lambda folder: write(folder, 'docs/GUIDE.md', f'Read `table_refusal` `{SOURCE}:1`.\n'),
     'an import past the layers': lambda folder: write(folder, 'tests/layers.txt', 'terms: checks: specs\n'),
     'a layer that is not there': lambda folder: write(folder, 'tests/layers.txt', 'counting: division: proofs.Facade\n'),
     'comparisons that differ': lambda folder: write(folder, 'tests/comparisons', 'echo 1 passed, 1 failed\nexit 1\n'),

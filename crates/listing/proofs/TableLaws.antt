@@ -1,6 +1,7 @@
 -- Laws of the text of a table as it is made: from the marks in a buffer, and from what `complete` answers.
 --
---   marked-length, marked-text   marks at the front of a buffer serve as the marks of the rows
+--   marked-length          marks at the front of a buffer serve as the marks of the rows
+--   completed-ascends, completed-lines   bytes that are the completed table of given rows: they ascend, and their lines are the text of the given table
 --   Made n table k after   what stands in a buffer after k completed rows were written into it
 --   made-rows              an accepted completion
 --   made-none              a completion into 4,096 rows that is refused, of a table that passed the checks 1 to 4
@@ -26,6 +27,7 @@ use Rattle.division.proofs.MarkByteLaws.{length-tableMarks}
 use Rattle.completing.specs.Operation.{roomFor, completedOf, CompletePromise}
 use Rattle.completing.specs.declared.CompleteAnswer.{CompleteAnswer}
 use Rattle.completing.specs.declared.CompleteAnswer.the-variants.{Rows, Refused}
+use Rattle.completion.specs.Completed.{completed}
 use Rattle.completion.proofs.RuleFive.{completed-table}
 use Rattle.completing.proofs.OperationLaws.{complete-count, complete-front, complete-positive, complete-length, room-enough, room-fits, accepted-room}
 use Rattle.completing.proofs.OperationLaws.{room-limited, completedOf-size}
@@ -43,13 +45,27 @@ marked-lines H marks rest (suc k) h = rw (marked-lines H marks rest k (omega ari
 pub marked-length : (n : ℕ) (H : Table) (buffer : List ℕ) {marks : List ℕ} → marks ≡ marked n H buffer → length H ≤ length marks
 marked-length n H buffer e = omega (arith, ap length e, length-append (tableMarks n H) (drop (length H) buffer), length-tableMarks n H)
 
-pub marked-text : (n j given : ℕ) (H : Table) (buffer : List ℕ) {marks : List ℕ} → marks ≡ marked n H buffer
+marked-text : (n j given : ℕ) (H : Table) (buffer : List ℕ) {marks : List ℕ} → marks ≡ marked n H buffer
     → wholeText j given H marks (steadyOf H) ≡ completedText n j given H
 unfolding completedText wholeText
 marked-text n j given H buffer {marks} e =
     let lines : rowLines H marks (length H) ≡ rowLines H (tableMarks n H) (length H) =
     rw e (marked-lines H (tableMarks n H) (drop (length H) buffer) (length H) (omega (arith, length-tableMarks n H))) in
     ap (λ (l : List ℕ). tableLine j given (length H) ++ (l ++ steadyLine (steadyOf H))) lines
+
+-- ---- bytes that are the completed table of given rows
+
+pub completed-ascends : (n : ℕ) (table given : List ℕ) → rows n table ≡ completed n (rows n given) → Ascending (rows n table)
+completed-ascends n table given e = subst (λ (H : Table). Ascending H) (sym e) (completed-table n (rows n given) (rows-size n given) .ascends)
+
+-- with their marks they give the text of the given table
+pub completed-lines : (n j : ℕ) (table given : List ℕ) → rows n table ≡ completed n (rows n given) → length (rows n table) ≤ 4096
+    → (buffer : List ℕ) {marks : List ℕ} → marks ≡ marked n (rows n table) buffer
+    → wholeText j (length (rows n given)) (rows n table) marks (steadyOf (rows n table)) ≡ tableText n j (rows n given)
+completed-lines n j table given e l buffer m =
+    marked-text n j (length (rows n given)) (rows n table) buffer m
+    ∙ ap (completedText n j (length (rows n given))) e
+    ∙ sym (tableText-room n j (rows n given) (omega (arith, ap length e)))
 
 -- ---- the completed rows
 
@@ -60,7 +76,6 @@ pub record Made (n : ℕ) (table : List ℕ) (k : ℕ) (after : List ℕ) : Type
   pub size : length (take (k * n) after) ≡ k * n
   pub same : rows n (take (k * n) after) ≡ completedOf n table
   pub limited : length (completedOf n table) ≤ 4096
-  pub ascends : Ascending (completedOf n table)
 
 pub made-rows : {n : ℕ} {table buffer : List ℕ} {answer : CompleteAnswer} {k : ℕ} {after : List ℕ} → refusal (tableChecks n table) ≡ 0
     → CompletePromise n table buffer answer after → answer ≡ Rows k → Made n table k after
@@ -79,7 +94,6 @@ made-rows {n} {table} {buffer} {answer} {k} {after} r q e =
       size = ap length front ∙ length-flat n H z ∙ ap (λ (m : ℕ). m * n) (sym counted);
       same = ap (rows n) front ∙ rows-flat n H (t .some) z;
       limited = omega (arith, room-limited n (length buffer));
-      ascends = completed-table n (rows n table) (rows-size n table) .ascends;
     }
 
 -- six bytes for each of 4,096 rows are room for 4,096 rows
@@ -98,8 +112,3 @@ made-none {n} {table} {buffer} {answer} {m} {after} r q e s =
     let room : length (completedOf n table) ≤ roomFor n (length buffer) = rw s (omega (arith, room-whole n (t .some) (t .six))) in
     absurd (omega (arith, complete-positive p, p .number, room-enough n table (length buffer) a room)))
     (λ g. omega arith)
-
--- the text of the table, from the completed rows in the buffer
-pub made-text : {n : ℕ} {table : List ℕ} {k : ℕ} {after : List ℕ} (j : ℕ) → Made n table k after
-    → completedText n j (length (rows n table)) (rows n (take (k * n) after)) ≡ tableText n j (rows n table)
-made-text {n} {table} j m = rw (m .same) (sym (tableText-room n j (rows n table) (m .limited)))

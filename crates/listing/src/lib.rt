@@ -15,14 +15,14 @@ ghost use mathlib.Core.Path.{_≡_};
 ghost use mathlib.Core.List.{[], _∷_, _++_};
 ghost use Prim.Native.Nat.{_+_, _≤_, _<_};
 ghost use lib.ListN.{length};
-ghost use Rattle.terms.specs.Order.{Ascending};
 ghost use Rattle.terms.specs.Rows.{rows, monomialOf};
 ghost use Rattle.checks.specs.Refusals.{refusal};
 ghost use Rattle.terms.specs.TableChecks.{tableChecks};
+ghost use Rattle.completion.specs.Completed.{completed};
 ghost use Rattle.counts.specs.Counts.{steadyOf};
 ghost use Rattle.text.specs.Decimal.{decimal, space};
 ghost use Rattle.text.specs.Written.{Wrote};
-ghost use Rattle.listing.specs.Text.{spaced, tableLine, rowLine, steadyLine, noRoomLine, refusalLine, rowLines, wholeText, completedText, tableText};
+ghost use Rattle.listing.specs.Text.{spaced, tableLine, rowLine, steadyLine, noRoomLine, refusalLine, rowLines, wholeText, tableText};
 ghost use Rattle.bundle.specs.Checks.{bundleChecks};
 ghost use Rattle.listing.specs.Operation.{PartPromise};
 
@@ -154,9 +154,9 @@ fn put_whole(n: usize, table: &[u8], marks: &[u8], given: &[u8], j: usize, out: 
 
 // Writes the text of table j from the start, from its given rows and its completed table.
 fn put_completed(n: usize, table: &[u8], given: &[u8], j: usize, out: &mut [u8]) -> usize
-    requires { ⌜ (0 < n) × (n ≤ 6) × Ascending (rows n (now table)) × (length (rows n (now table)) ≤ 4096)
-        × (length (completedText n j (length (rows n (now given))) (rows n (now table))) ≤ length (now out)) ⌝ }
-    ensures { λ r. ⌜ Wrote (now (out .entry)) 0 (completedText n j (length (rows n (now (given .entry)))) (rows n (now (table .entry)))) r (now (out .exit)) ⌝ }
+    requires { ⌜ (0 < n) × (n ≤ 6) × (rows n (now table) ≡ completed n (rows n (now given))) × (length (rows n (now table)) ≤ 4096)
+        × (length (tableText n j (rows n (now given))) ≤ length (now out)) ⌝ }
+    ensures { λ r. ⌜ Wrote (now (out .entry)) 0 (tableText n j (rows n (now (given .entry)))) r (now (out .exit)) ⌝ }
 {
     let mut marks = [0u8; MOST_ROWS];
     marking::mark_ascending(n, table, &mut marks);

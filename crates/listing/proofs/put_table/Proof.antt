@@ -2,14 +2,12 @@
 -- 4,096 rows, and the one line says so.
 use borrow.Author.Needs.{needs}
 use native.Mathlib.Omega.{arith}
-use mathlib.Core.Path.{sym, ap, subst}
+use mathlib.Core.Path.{sym, ap}
 use lib.ListN.{length}
-use Rattle.terms.specs.Monomials.{Table}
-use Rattle.terms.specs.Order.{Ascending}
 use Rattle.terms.specs.Rows.{rows}
 use Rattle.text.proofs.WrittenLaws.{wrote-as}
 use Rattle.listing.proofs.BoundLaws.{tableText-full}
-use Rattle.listing.proofs.TableLaws.{made-rows, made-none, made-text}
+use Rattle.listing.proofs.TableLaws.{made-rows, made-none}
 use Rattle.listing.proofs.put_table.Statement.{statement}
 use Rattle.listing.proofs.put_table.Tie as tie
 
@@ -46,13 +44,7 @@ put-completed-requires c κs =
     let answer = c .before .before .before .before .before .before in
     let start = answer .before .before .before .before in
     let m = made-rows (start .pre .0) (answer .complete .ensures) (c .before .before .before .count .given .1) in
-    let text = made-text (start .args .j) m in (
-      m .some,
-      m .six,
-      subst (λ (H : Table). Ascending H) (sym (m .same)) (m .ascends),
-      omega (arith, ap length (m .same), m .limited),
-      omega (arith, ap length text, start .pre .1),
-    )
+    (m .some, m .six, m .same, omega (arith, ap length (m .same), m .limited), start .pre .1)
 
 enum-told : tie.Need-enum-told
 enum-told c = search needs
@@ -69,12 +61,7 @@ same-length : tie.Need-same-length
 same-length c = search needs
 
 returns : tie.Need-returns
-returns c =
-    let made = c .before .before .before .before .before .before in
-    let answer = made .before .before .before in
-    let start = answer .before .before .before .before in
-    wrote-as (c .before .before .put-completed .ensures)
-    (made-text (start .args .j) (made-rows (start .pre .0) (answer .complete .ensures) (made .count .given .1)))
+returns c = c .before .before .put-completed .ensures
 
 same-length-2 : tie.Need-same-length-2
 same-length-2 c = search needs

@@ -9,7 +9,7 @@ fn write_part(bundle: &[u8], refused: u8, j: usize) -> bool
     requires { ⌜ refused ≡ refusal (bundleChecks (now bundle)) ⌝ }
 {
     let mut out = [0u8; listing::TEXT_SIZE];
-    let size = listing::part_text(bundle, refused, j, &mut out);
+    let size = listing::part_text_checked(bundle, refused, j, &mut out);
     io::write_all(1, &out[..size])
 }
 

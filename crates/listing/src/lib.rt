@@ -1,5 +1,6 @@
 // The text that the program writes, as bytes in a lent buffer. Each writer puts its text from a place on, leaves every
 // other byte as it was, and answers the place behind the text.
+use bundle::bundle_refusal;
 use bundle::locate_checked;
 use bundle::part;
 use completing::COMPLETED_SIZE;
@@ -181,7 +182,7 @@ fn put_table(n: usize, table: &[u8], j: usize, out: &mut [u8]) -> usize
 
 // Writes part j of the program's output for a bundle from the start, from the number by which the bundle is refused: the text of table j, and
 // nothing where there is no such table; of a refused bundle the line of its refusal in part 0, and nothing in the others.
-pub fn part_text(bundle: &[u8], refused: u8, j: usize, out: &mut [u8; TEXT_SIZE]) -> usize
+pub fn part_text_checked(bundle: &[u8], refused: u8, j: usize, out: &mut [u8; TEXT_SIZE]) -> usize
     requires { ⌜ refused ≡ refusal (bundleChecks (now bundle)) ⌝ }
     ensures { λ r. ⌜ PartPromise (now (bundle .entry)) j (now (out .entry)) r (now (out .exit)) ⌝ }
 {
@@ -196,4 +197,11 @@ pub fn part_text(bundle: &[u8], refused: u8, j: usize, out: &mut [u8; TEXT_SIZE]
         return 0;
     }
     put_table(found.n, part(bundle, found), j, out)
+}
+
+// The same for any bundle: checks it first.
+pub fn part_text(bundle: &[u8], j: usize, out: &mut [u8; TEXT_SIZE]) -> usize
+    ensures { λ r. ⌜ PartPromise (now (bundle .entry)) j (now (out .entry)) r (now (out .exit)) ⌝ }
+{
+    part_text_checked(bundle, bundle_refusal(bundle), j, out)
 }

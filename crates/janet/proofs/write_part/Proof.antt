@@ -5,14 +5,16 @@ use lib.Seq.{length-take-le}
 use Rattle.janet.proofs.write_part.Statement.{statement}
 use Rattle.janet.proofs.write_part.Tie as tie
 
-part-text-requires : tie.Need-part-text-requires
-part-text-requires c κs = search needs
+part-text-checked-requires : tie.Need-part-text-checked-requires
+part-text-checked-requires c κs = search needs
 
 array-share-prefix-out : tie.Need-array-share-prefix-out
 array-share-prefix-out c = search needs
 
 slice-aggregate-write-all : tie.Need-slice-aggregate-write-all
-slice-aggregate-write-all c = sym (length-take-le (c .before .part-text .result) (c .before .part-text .last .1 .1 .1 .0) (c .before .part-text .ensures .fits))
+slice-aggregate-write-all c =
+    let part = c .before .part-text-checked in
+    sym (length-take-le (part .result) (part .last .1 .1 .1 .0) (part .ensures .fits))
 
 write-all-requires : tie.Need-write-all-requires
 write-all-requires c κs = search needs
@@ -24,7 +26,7 @@ pub write-part-spec : {M : Type 1} → statement M
 write-part-spec =
     tie.close
     (tie.spec
-    part-text-requires
+    part-text-checked-requires
     array-share-prefix-out
     slice-aggregate-write-all
     write-all-requires

@@ -8,8 +8,8 @@ use Rattle.bundle.proofs.ReadLaws.{found-within}
 use Rattle.text.proofs.WrittenLaws.{wrote-nothing}
 use Rattle.listing.specs.Text.{textSize}
 use Rattle.listing.proofs.PartLaws.{part-refused, part-silent, part-none, part-found, part-written, refusalLine-bound}
-use Rattle.listing.proofs.part_text.Statement.{statement}
-use Rattle.listing.proofs.part_text.Tie as tie
+use Rattle.listing.proofs.part_text_checked.Statement.{statement}
+use Rattle.listing.proofs.part_text_checked.Tie as tie
 
 -- where the function begins, from behind the two questions
 abbrev start : tie.Else1 → tie.Start
@@ -63,8 +63,8 @@ returns-4 c =
     (c .before .before .part .ensures .bytes) in
     part-written (a .bundle .now) (a .j) (c .put-table .ensures) (f .text)
 
-pub part-text-spec : {M : Type 1} → statement M
-part-text-spec =
+pub part-text-checked-spec : {M : Type 1} → statement M
+part-text-checked-spec =
     tie.close
     (tie.spec
     returns

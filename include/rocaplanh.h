@@ -7,17 +7,18 @@
  * Rows count from 0.
  *
  * Who owns what. All memory is the caller's: the library keeps no pointer, allocates nothing and has no state, so calls
- * may run at the same time on different memory. `const` memory is only read. Each length counts bytes. A buffer that is
- * lent for writing (`marks`, `rows` of rocaplanh_complete) changes at its front only, as far as the function says; bytes
- * behind that stay, and after a refusal all of them stay. A number behind a pointer (`row`, `count`, `steps`, `value`,
- * `degree`, `n`, `rows` of rocaplanh_open, `offset`) is an answer: it is always written, and is 0 after a refusal.
+ * may run at the same time on different memory. `const` memory is only read. Each length counts elements: bytes, or
+ * 16-bit numbers for `counts`. A buffer that is lent for writing (`marks`, `rows` of rocaplanh_complete, `buffer`)
+ * changes at its front only, as far as the function says; bytes behind that stay, and after a refusal all of them stay.
+ * A number behind a pointer (`row`, `count`, `steps`, `value`, `degree`, `n`, `rows` of rocaplanh_open, `offset`,
+ * `length`) is an answer: it is always written, and is 0 after a refusal.
  *
  * What is presumed. Pointers are valid for their length and do not overlap where one of them is written through. A pointer
  * whose length is 0 may be NULL or any other value: nothing is read or written through it. A pointer to a number must not
  * be NULL. On these points the library trusts its caller.
  *
  * What is returned. Each function returns 0 for an answer, or else the number of its refusal: the lowest that applies,
- * the conditions of a bundle being tried in the order given at rocaplanh_open.
+ * the conditions of a bundle being tried in the order given at rocaplanh_open and rocaplanh_write.
  */
 #ifndef ROCAPLANH_H
 #define ROCAPLANH_H
@@ -44,13 +45,14 @@ extern "C" {
 enum rocaplanh_refusal {
     ROCAPLANH_ANSWERED = 0,        /* no refusal */
     ROCAPLANH_VARIABLES = 1,       /* n is not 1 to 6 */
-    ROCAPLANH_TABLE_LENGTH = 2,    /* the table's length is no multiple of n */
+    ROCAPLANH_TABLE_LENGTH = 2,    /* a length that is no multiple of n, or not what n and the row counts demand (write) */
     ROCAPLANH_TOO_MANY_ROWS = 3,   /* more than 4096 rows */
     ROCAPLANH_ENTRY = 4,           /* an entry above 50 */
     ROCAPLANH_QUESTION = 5,        /* query length not n; degree above 300; table number not in the bundle */
     ROCAPLANH_ORDER = 6,           /* rows not strictly ascending (find, count, polynomial, steady) */
     ROCAPLANH_NOT_COMPLETE = 7,    /* table not complete (count, polynomial, steady) */
-    ROCAPLANH_ROOM = 8,            /* more completed rows than room (complete); fewer bytes than rows (marks) */
+    ROCAPLANH_ROOM = 8,            /* more completed rows than room (complete); fewer bytes than rows (marks);
+                                      a bundle longer than the buffer, or than 65535 bytes (write) */
     ROCAPLANH_BUNDLE = 9,          /* bundle below 2 or above 65535 bytes, not 1 to 16 tables, or shorter than its header */
     ROCAPLANH_OFFSET = 10,         /* an offset in a bundle is not the place where that table must begin */
     ROCAPLANH_BODY = 11            /* a table's body passes the bundle's end, or bytes remain after the last */
@@ -104,6 +106,15 @@ uint32_t rocaplanh_steady(size_t n, const uint8_t *table, size_t table_length, u
  * table; then 5. A fault in any table refuses the whole bundle, whichever table is asked for. */
 uint32_t rocaplanh_open(const uint8_t *bundle, size_t bundle_length, size_t table, uint32_t *n, uint32_t *rows,
                         uint32_t *offset);
+
+/* Writes a bundle to the front of `buffer`, in the format that rocaplanh_open reads, and sets `*length` to its number of
+ * bytes. `counts` has the row count of each table, `tables` the rows of all tables end to end: n bytes a row. What is
+ * written, rocaplanh_open opens: table j is the j-th table given. A bundle that it opens, taken apart and written again,
+ * is the same bytes. A buffer of ROCAPLANH_MOST_BUNDLE_BYTES holds every bundle.
+ * Refuses by 1; then 9 when counts_length is not 1 to 16; then 2 when tables_length is not n times the sum of the counts;
+ * then 3 when a count is above 4096; then 4; then 8 when the bundle is longer than `buffer`, or than 65535 bytes. */
+uint32_t rocaplanh_write(size_t n, const uint16_t *counts, size_t counts_length, const uint8_t *tables, size_t tables_length,
+                         uint8_t *buffer, size_t buffer_length, uint32_t *length);
 
 #ifdef __cplusplus
 }

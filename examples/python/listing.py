@@ -1,6 +1,14 @@
-"""Completes the paper's table 2 1, 0 2 and prints the completed rows."""
+"""Completes the paper's table 2 1, 0 2 and prints the completed rows; writes its bundle, opens it and prints both."""
 
 import rocaplanh
 
-for row in rocaplanh.complete(2, [(2, 1), (0, 2)]):
+TABLE = [(2, 1), (0, 2)]
+
+for row in rocaplanh.complete(2, TABLE):
+    print(*row)
+
+bundle = rocaplanh.write_bundle(2, [TABLE])
+print(*bundle)
+n, tables = rocaplanh.open_tables(bundle)
+for row in tables[0]:
     print(*row)

@@ -23,7 +23,8 @@ use Rattle.terms.proofs.RowsLaws.{length-firstRows, firstRows-size, firstRows-f
 use Rattle.completion.specs.Blocks.{behind, repeated}
 use Rattle.blocks.specs.Bytes.{after, fit, part, copies}
 use Rattle.completion.proofs.BlockLaws.{cons-same}
-use Rattle.blocks.proofs.ByteLaws.{rows-before, rows-fewer, shorter-front, pasted-front}
+use Rattle.writing.proofs.CopyLaws.{pasted-front}
+use Rattle.blocks.proofs.ByteLaws.{rows-before, rows-fewer, shorter-front}
 use Rattle.blocks.proofs.BufferLaws.{flat-append, after-append, after-set, fit-beyond}
 
 -- ---- parts

@@ -1,8 +1,8 @@
 // Blocks of rows: a column set, a block repeated under further heads, its endings copied.
-use crate::bytes::copy_from;
-use crate::bytes::copy_within;
 use terms::RowNumber;
 use terms::Variable;
+use writing::copy_from;
+use writing::copy_within;
 ghost use mathlib.Core.Path.{_≡_};
 ghost use mathlib.Core.List.{_++_, map};
 ghost use Prim.Native.Nat.{suc, _+_, _*_, _-_, _≤_, _<_};

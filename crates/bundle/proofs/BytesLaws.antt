@@ -15,7 +15,7 @@ use lib.Dec.{lit<}
 use lib.ListN.{length, getD, take, drop, take-append-drop, drop-of-length-le}
 use lib.Seq.{drop-drop, drop-cons}
 use Rattle.bundle.specs.Format.{byteAt, number16, variablesOf, tableCount, rowCount, offsetOf, placeOf, tableOf, tablesFrom, tablesOf, Bytes, low, high}
-use Rattle.bundle.specs.Format.{entriesOf, bodiesOf, bundleOf}
+use Rattle.bundle.specs.Format.{countsOf, entriesOf, bodiesOf, bundleOf}
 use Rattle.bundle.proofs.AcceptedLaws.{Laid, Accepted, from-place, length-table, flat-table}
 
 -- ---- the two bytes of a number
@@ -79,8 +79,9 @@ module _ (b : List ℕ) (bytes : Bytes b) (a : Laid b) where
         four : {p q r s p′ q′ r′ s′ : ℕ} {l : List ℕ} → p′ ≡ p → q′ ≡ q → r′ ≡ r → s′ ≡ s → p ∷ q ∷ r ∷ s ∷ l ≡ p′ ∷ q′ ∷ r′ ∷ s′ ∷ l
         four e f g h = cc
 
-  pub read-entries : (m j : ℕ) → j + m ≡ tableCount b → entriesOf (variablesOf b) (placeOf b j) (tablesFrom b j m) ≡ take (4 * m) (drop (2 + 4 * j) b)
-  unfolding entriesOf tablesFrom
+  pub read-entries : (m j : ℕ) → j + m ≡ tableCount b
+      → entriesOf (variablesOf b) (placeOf b j) (countsOf (tablesFrom b j m)) ≡ take (4 * m) (drop (2 + 4 * j) b)
+  unfolding entriesOf countsOf tablesFrom
   read-entries zero j e = refl
   read-entries (suc m) j e =
       let h : j < tableCount b = omega arith in
@@ -103,7 +104,7 @@ unfolding bundleOf placeOf
 bundle-again b bytes a =
     let k = tableCount b in
     let l : length (tablesOf b) ≡ k = length-tablesFrom b 0 k in
-    let e : entriesOf (variablesOf b) (2 + 4 * k) (tablesOf b) ≡ take (4 * k) (drop 2 b) = read-entries b bytes a k 0 (omega arith) in
+    let e : entriesOf (variablesOf b) (2 + 4 * k) (countsOf (tablesOf b)) ≡ take (4 * k) (drop 2 b) = read-entries b bytes a k 0 (omega arith) in
     let d : bodiesOf (tablesOf b) ≡ drop (2 + 4 * k) b = read-bodies b bytes a k 0 (omega arith) in
     let s : take (4 * k) (drop 2 b) ++ drop (2 + 4 * k) b ≡ drop 2 b = rw (← drop-drop (4 * k) 2 b) (take-append-drop (4 * k) (drop 2 b)) in
     let long = a .frame .long in

@@ -6,7 +6,7 @@ use Prim.Native.Nat.{ℕ}
 use Rattle.terms.specs.Rows.{rows, firstRows, flat}
 use Rattle.checks.specs.Refusals.{refusal}
 use Rattle.terms.specs.ExampleTables.{tableD, bundleD}
-use Rattle.bundle.specs.Format.{rowCount, offsetOf, placeOf, tablesFrom, tablesOf, entriesOf, bodiesOf, bundleOf}
+use Rattle.bundle.specs.Format.{rowCount, offsetOf, placeOf, tablesFrom, tablesOf, countsOf, entriesOf, bodiesOf, bundleOf}
 use Rattle.bundle.specs.Checks.{tablesChecks, openChecks}
 
 -- the number with which table j of b is refused, 0 where it is opened
@@ -25,7 +25,7 @@ unfolding tablesFrom rows firstRows placeOf rowCount
 listing-tables = refl
 
 listing-again : bundleOf 2 (tableD ∷ []) ≡ bundleD
-unfolding bundleOf entriesOf bodiesOf flat
+unfolding bundleOf countsOf entriesOf bodiesOf flat
 listing-again = refl
 
 -- it has no table 1

@@ -17,7 +17,8 @@
 --   tablesOf b        the tables, in order
 --   Bytes b           each element is a byte, as in every slice of bytes
 --   low m, high m     the two bytes of a 16-bit number
---   entriesOf n p Ts  the entries of tables whose first body begins at p
+--   countsOf Ts       the row counts of tables
+--   entriesOf n p counts   the header's entries of tables with these row counts, the first body beginning at p
 --   bodiesOf Ts       the bodies of tables, end to end
 --   bundleOf n Ts     the bundle of these tables
 --
@@ -80,13 +81,17 @@ low m = m % 256
 abbrev pub high : ℕ → ℕ
 high m = m / 256
 
-unfoldable pub entriesOf : ℕ → ℕ → List Table → List ℕ
+unfoldable pub countsOf : List Table → List ℕ
+countsOf [] = []
+countsOf (G ∷ tables) = length G ∷ countsOf tables
+
+unfoldable pub entriesOf : ℕ → ℕ → List ℕ → List ℕ
 entriesOf n place [] = []
-entriesOf n place (G ∷ tables) = low (length G) ∷ high (length G) ∷ low place ∷ high place ∷ entriesOf n (place + length G * n) tables
+entriesOf n place (c ∷ counts) = low c ∷ high c ∷ low place ∷ high place ∷ entriesOf n (place + c * n) counts
 
 unfoldable pub bodiesOf : List Table → List ℕ
 bodiesOf [] = []
 bodiesOf (G ∷ tables) = flat G ++ bodiesOf tables
 
 unfoldable pub bundleOf : ℕ → List Table → List ℕ
-bundleOf n tables = n ∷ length tables ∷ (entriesOf n (2 + 4 * length tables) tables ++ bodiesOf tables)
+bundleOf n tables = n ∷ length tables ∷ (entriesOf n (2 + 4 * length tables) (countsOf tables) ++ bodiesOf tables)

@@ -9,7 +9,7 @@ ghost use Rattle.bundle.specs.Checks.{frameChecks, tableChecksOf, tables
 ghost use Rattle.bundle.specs.Operation.{LocatePromise, FoundWithin, PartOf, OpenPromise};
 
 // The most bytes of a bundle, and the most tables.
-const MOST_BYTES: usize = 65535;
+pub const MOST_BYTES: usize = 65535;
 
 pub const MOST_TABLES: usize = 16;
 

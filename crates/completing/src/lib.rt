@@ -1,9 +1,9 @@
 // The completed table of a table (rule 5), by slices of the first variable: the operation `complete`.
-use blocks::bytes::copy_from;
 use slicing::append_completed;
 use terms::MOST_ROWS;
 use terms::Row;
 use terms::table_refusal;
+use writing::copy_from;
 ghost use mathlib.Core.Path.{_≡_};
 ghost use Prim.Native.Nat.{_*_, _≤_, _<_};
 ghost use lib.ListN.{length};

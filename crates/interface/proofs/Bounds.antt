@@ -5,6 +5,7 @@
 --   steps-small     steps are at most 256 for each variable
 --   steady-small    a steady degree is at most 300
 --   located-small   n, row count and place of an opened table are below 65,536
+--   length-small    a written bundle has at most 65,535 bytes
 use mathlib.Core.Path.{_≡_, sym, ap, _∙_, subst}
 use mathlib.Core.List.{List}
 use mathlib.Core.Logic.{by-cases}
@@ -42,6 +43,10 @@ use Rattle.bundle.specs.Operation.{LocatePromise}
 use Rattle.bundle.specs.declared.Located.{Located}
 use Rattle.bundle.proofs.ReadLaws.{open-accepted, numbers, zeros}
 use Rattle.checks.proofs.RefusalLaws.{answered-accepted}
+use Rattle.packing.specs.Operation.{WritePromise}
+use Rattle.packing.specs.declared.WriteAnswer.{WriteAnswer}
+use Rattle.packing.specs.declared.WriteAnswer.the-variants as write
+use Rattle.packing.proofs.OperationLaws.{write-bound}
 
 -- ---- find
 
@@ -111,3 +116,10 @@ pub count-small : {n : ℕ} {table buffer after : List ℕ} {answer : CompleteAn
 count-small {n} {table} {buffer} {after} {answer} {k} q e =
     let p : CompletePromise n table buffer (complete.Rows k) after = subst (λ (a : CompleteAnswer). CompletePromise n table buffer a after) e q in
     omega (arith, complete-count p, accepted-room n table (length buffer) (sym (p .number)), room-limited n (length buffer))
+
+-- ---- write
+
+pub length-small : {n : ℕ} {counts tables buffer after : List ℕ} {answer : WriteAnswer} {k : ℕ} → WritePromise n counts tables buffer answer after
+    → answer ≡ write.Length k → k ≤ 65535
+length-small {n} {counts} {tables} {buffer} {after} q e =
+    write-bound (subst (λ (a : WriteAnswer). WritePromise n counts tables buffer a after) e q)

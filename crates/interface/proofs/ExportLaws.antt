@@ -1,6 +1,6 @@
 -- What an exported function hands out is what the answer of its operation says.
 --
---   marks-out, inside-out, complete-out, find-out, count-out, polynomial-out, steady-out
+--   marks-out, inside-out, complete-out, find-out, count-out, polynomial-out, steady-out, write-out
 --                  the promise of the export, from that of the operation's answer and from what this answer is
 use mathlib.Core.Path.{_≡_, sym, ap}
 use mathlib.Core.List.{List}
@@ -18,8 +18,10 @@ use Rattle.counting.specs.Operations.{steadyNumber, steadyValue}
 use Rattle.counting.specs.declared.CountAnswer.{CountAnswer}
 use Rattle.counting.specs.declared.PolynomialAnswer.{PolynomialAnswer}
 use Rattle.counting.specs.declared.SteadyAnswer.{SteadyAnswer}
+use Rattle.packing.specs.Operation.{WritePromise, writeNumber, writeLength}
+use Rattle.packing.specs.declared.WriteAnswer.{WriteAnswer}
 use Rattle.interface.specs.Exports.{MarksExport, InsideExport, insideOut, CompleteExport, FindExport, rowOut, CountExport, PolynomialExport}
-use Rattle.interface.specs.Exports.{SteadyExport}
+use Rattle.interface.specs.Exports.{SteadyExport, WriteExport}
 
 pub marks-out : {n : ℕ} {table buffer after : List ℕ} {answer a : MarksAnswer} → MarksPromise n table buffer answer after → answer ≡ a
     → MarksExport n table buffer (marksNumber a) after
@@ -54,3 +56,7 @@ polynomial-out {answer = answer} p e = record { answer = answer; promise = p; re
 pub steady-out : {n : ℕ} {table : List ℕ} {answer a : SteadyAnswer} → SteadyPromise n table answer → answer ≡ a
     → SteadyExport n table (steadyNumber a) (steadyValue a)
 steady-out {answer = answer} p e = record { answer = answer; promise = p; returned = sym (ap steadyNumber e); degree-is = sym (ap steadyValue e) }
+
+pub write-out : {n : ℕ} {counts tables buffer after : List ℕ} {answer a : WriteAnswer} → WritePromise n counts tables buffer answer after → answer ≡ a
+    → WriteExport n counts tables buffer (writeNumber a) (writeLength a) after
+write-out {answer = answer} p e = record { answer = answer; promise = p; returned = sym (ap writeNumber e); size-is = sym (ap writeLength e) }

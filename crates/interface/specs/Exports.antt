@@ -3,7 +3,7 @@
 --   insideOut, rowOut     the row number out for each case of an answer: 65,535 for no row, 0 beside a refusal
 --   MarksExport n table buffer number after, InsideExport n table query number row,
 --   FindExport n table query number row steps   some answer keeps the operation's promise, and the numbers are those of that answer
---   CompleteExport, CountExport, PolynomialExport, SteadyExport, OpenExport   likewise
+--   CompleteExport, CountExport, PolynomialExport, SteadyExport, OpenExport, WriteExport   likewise
 use mathlib.Core.Path.{_≡_}
 use mathlib.Core.List.{List}
 use Prim.Native.Nat.{ℕ}
@@ -25,6 +25,8 @@ use Rattle.counting.specs.declared.PolynomialAnswer.{PolynomialAnswer}
 use Rattle.counting.specs.declared.SteadyAnswer.{SteadyAnswer}
 use Rattle.bundle.specs.Operation.{LocatePromise}
 use Rattle.bundle.specs.declared.Located.{Located}
+use Rattle.packing.specs.Operation.{WritePromise, writeNumber, writeLength}
+use Rattle.packing.specs.declared.WriteAnswer.{WriteAnswer}
 
 pub record MarksExport (n : ℕ) (table buffer : List ℕ) (number : ℕ) (after : List ℕ) : Type 0 where
   pub answer : MarksAnswer
@@ -86,3 +88,9 @@ pub record OpenExport (bundle : List ℕ) (j number n rows offset : ℕ) : Type 
   pub variables : n ≡ answer .n
   pub count : rows ≡ answer .rows
   pub begins : offset ≡ answer .place
+
+pub record WriteExport (n : ℕ) (counts tables buffer : List ℕ) (number size : ℕ) (after : List ℕ) : Type 0 where
+  pub answer : WriteAnswer
+  pub promise : WritePromise n counts tables buffer answer after
+  pub returned : number ≡ writeNumber answer
+  pub size-is : size ≡ writeLength answer

@@ -16,9 +16,11 @@ use inside::InsideAnswer;
 use inside::inside;
 use marking::MarksAnswer;
 use marking::marks;
+use packing::WriteAnswer;
+use packing::write_bundle;
 use terms::Degree;
 ghost use Rattle.interface.specs.Exports.{MarksExport, InsideExport, CompleteExport, FindExport, CountExport, PolynomialExport, SteadyExport};
-ghost use Rattle.interface.specs.Exports.{OpenExport};
+ghost use Rattle.interface.specs.Exports.{OpenExport, WriteExport};
 
 // What stands for 'no row'.
 const NO_ROW: u32 = 65535;
@@ -184,4 +186,28 @@ pub extern "C" fn rocaplanh_open(
     *rows = found.rows as u32;
     *offset = found.place as u32;
     found.refusal as u32
+}
+
+// The bundle of tables, given by their row counts and their rows end to end, at the front of the lent buffer, and its length.
+#[no_mangle]
+pub extern "C" fn rocaplanh_write(
+    n: usize,
+    counts: &[u16],
+    tables: &[u8],
+    buffer: &mut [u8],
+    length: &mut u32,
+) -> u32
+    ensures { λ r. ⌜ WriteExport n (now (counts .entry)) (now (tables .entry)) (now (buffer .entry)) r (now (length .exit)) (now (buffer .exit)) ⌝ }
+{
+    let answer = write_bundle(n, counts, tables, buffer);
+    match answer {
+        WriteAnswer::Length(k) => {
+            *length = k as u32;
+            0
+        }
+        WriteAnswer::Refused(m) => {
+            *length = 0;
+            m as u32
+        }
+    }
 }

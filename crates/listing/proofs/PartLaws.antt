@@ -33,7 +33,7 @@ use Rattle.checks.proofs.RefusalLaws.{answered-accepted}
 use Rattle.bundle.proofs.ReadLaws.{numbers, opens-table, open-accepted, body-shown}
 use Rattle.text.proofs.DecimalLaws.{decimal-length}
 use Rattle.listing.specs.Text.{textSize, refusalLine, tableText, tablesText, bundleText, partText, partsText}
-use Rattle.text.specs.Written.{written, Wrote}
+use Rattle.writing.specs.Written.{written, Wrote}
 use Rattle.listing.specs.Operation.{PartPromise}
 use Rattle.listing.proofs.TextLaws.{refusalLine-length}
 use Rattle.listing.proofs.BoundLaws.{text-bound}

@@ -7,7 +7,7 @@ use mathlib.Core.List.{List}
 use Prim.Native.Nat.{ℕ, _≤_}
 use lib.ListN.{length}
 use Rattle.listing.specs.Text.{partText}
-use Rattle.text.specs.Written.{written}
+use Rattle.writing.specs.Written.{written}
 
 pub record PartPromise (b : List ℕ) (j : ℕ) (before : List ℕ) (size : ℕ) (after : List ℕ) : Type 0 where
   pub counts : size ≡ length (partText b j)

@@ -89,6 +89,7 @@ demand-one = record {
         let none = beside (openChecks (now bundle) j) (answer .refusal) (p .number) l in
         (p .variables ∙ none _ 0, p .count ∙ none _ 0, p .shown ∙ beside (openChecks (now bundle) j) (answer .refusal) (p .number) l _ []),
   );
+  write = λ n counts tables buffer answer after p. (settled _ _ (p .number), λ l. p .writes ∙ beside _ _ (p .number) l _ buffer);
 }
 
 -- ---- the second demand

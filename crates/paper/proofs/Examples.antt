@@ -11,6 +11,7 @@ use Rattle.completion.proofs.Examples as completion
 use Rattle.completing.proofs.Examples as completing
 use Rattle.counts.proofs.Examples as counting
 use Rattle.listing.proofs.Examples as listing
+use Rattle.packing.proofs.Examples as packing
 use Rattle.paper.specs.Examples.{StarredExamples}
 
 ascending-F : Ascending tableF
@@ -37,5 +38,6 @@ starred-examples = record {
   G = (record { found = refl; steps = refl }, record { found = refl; steps = refl });
   H = (completion.example-H-table, refl);
   I = completion.example-I-table;
+  D-written = (λ buffer answer after e p. packing.example-D-written buffer e p, λ buffer answer after e p. packing.example-D-short buffer e p);
   J = (λ buffer answer after e p. completing.example-J-accepted buffer e p, λ buffer answer after e p. completing.example-J-refused buffer e p);
 }

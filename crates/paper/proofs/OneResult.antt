@@ -15,6 +15,8 @@ use Rattle.counting.proofs.OperationLaws.{count-unique, polynomial-unique, stea
 use Rattle.bundle.specs.declared.Located.{Located}
 use Rattle.bundle.proofs.ReadLaws.{locate-unique, open-unique}
 use Rattle.listing.proofs.PartLaws.{part-unique}
+use Rattle.packing.specs.Operation.{writeNumber, writeLength}
+use Rattle.packing.proofs.OperationLaws.{write-unique}
 use Rattle.interface.specs.Exports.{insideOut, rowOut}
 use Rattle.paper.specs.OneResult.{OneResult, OneExport}
 
@@ -30,6 +32,7 @@ one-result = record {
   locate = locate-unique;
   opened = open-unique;
   part = λ bundle j before r s x y p q. part-unique p q;
+  write = λ n counts tables buffer a b x y p q. write-unique p q;
 }
 
 -- two numbers out of one answer
@@ -63,4 +66,7 @@ one-export = record {
         same (λ (l : Located). l .rows) (p .count) (q .count) e,
         same (λ (l : Located). l .place) (p .begins) (q .begins) e,
       );
+  write = λ n counts tables buffer m k c d x y p q.
+      let e = write-unique (p .promise) (q .promise) in
+      (same writeNumber (p .returned) (q .returned) (e .0), same writeLength (p .size-is) (q .size-is) (e .0), e .1);
 }

@@ -43,6 +43,9 @@ use Rattle.counting.specs.declared.SteadyAnswer.the-variants as steady
 use Rattle.bundle.specs.Format.{variablesOf, bodyOf, tableOf}
 use Rattle.bundle.specs.Checks.{bundleChecks, openChecks}
 use Rattle.bundle.proofs.ReadLaws.{open-accepted}
+use Rattle.packing.specs.Operation.{writeNumber, writeLength}
+use Rattle.packing.specs.declared.WriteAnswer.{WriteAnswer}
+use Rattle.packing.specs.declared.WriteAnswer.the-variants as write
 use Rattle.listing.specs.Text.{completedText, tableText, refusalLine, partText, bundleText}
 use Rattle.listing.proofs.BoundLaws.{tableText-room, tableText-full}
 use Rattle.listing.proofs.PartLaws.{part-front, table-part, bundle-parts}
@@ -93,6 +96,10 @@ steady-zero : (a : SteadyAnswer) → 0 < steadyNumber a → steadyValue a ≡ 0
 steady-zero (steady.At d) h = absurd (omega arith)
 steady-zero (steady.Refused m) h = refl
 
+write-zero : (a : WriteAnswer) → 0 < writeNumber a → writeLength a ≡ 0
+write-zero (write.Length k) h = absurd (omega arith)
+write-zero (write.Refused m) h = refl
+
 pub export-demand : ExportDemand
 export-demand = record {
   marks = λ n table buffer number after x.
@@ -124,6 +131,9 @@ export-demand = record {
         λ l.
             let z = d .1 (omega (arith, x .returned)) in (x .variables ∙ z .0, x .count ∙ z .1, x .begins ∙ z .2),
       );
+  write = λ n counts tables buffer number size after x.
+      let d = demand-one .write n counts tables buffer (x .answer) after (x .promise) in
+      (returned (x .returned) (d .0), λ l. (x .size-is ∙ write-zero (x .answer) (omega (arith, x .returned)), d .1 (omega (arith, x .returned))));
 }
 
 -- ---- row numbers

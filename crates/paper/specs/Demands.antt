@@ -37,6 +37,8 @@ use Rattle.counting.specs.Operations.{CountPromise, PolynomialPromise, SteadyPr
 use Rattle.counting.specs.Operations.{steadyNumber}
 use Rattle.bundle.specs.Checks.{openChecks}
 use Rattle.bundle.specs.Operation.{LocatePromise, OpenPromise}
+use Rattle.packing.specs.Operation.{WritePromise, writeChecks, writeNumber}
+use Rattle.packing.specs.declared.WriteAnswer.{WriteAnswer}
 use Rattle.completing.specs.declared.CompleteAnswer.{CompleteAnswer}
 use Rattle.finding.specs.declared.FindAnswer.{FindAnswer}
 use Rattle.counting.specs.declared.CountAnswer.{CountAnswer}
@@ -67,6 +69,8 @@ pub record DemandOne : Type 1 where
       → Settled (openChecks bundle j) (answer .refusal) × (0 < answer .refusal → (answer .n ≡ 0) × (answer .rows ≡ 0) × (answer .place ≡ 0))
   pub opened : (bundle : RefT (List ℕ)) (j : ℕ) (answer : OpenedTable) → OpenPromise bundle j answer
       → Settled (openChecks (now bundle) j) (answer .refusal) × (0 < answer .refusal → (answer .n ≡ 0) × (answer .rows ≡ 0) × (now (answer .bytes) ≡ []))
+  pub write : (n : ℕ) (counts tables buffer : List ℕ) (answer : WriteAnswer) (after : List ℕ) → WritePromise n counts tables buffer answer after
+      → Settled (writeChecks n counts tables (length buffer)) (writeNumber answer) × (0 < writeNumber answer → after ≡ buffer)
 
 -- what stands in the buffer after an accepted completion of k rows
 pub record Completion (n : ℕ) (table buffer : List ℕ) (k : ℕ) (after : List ℕ) : Type 0 where

@@ -1,4 +1,4 @@
--- The paper's starred examples, A to J, of the rules themselves, under one statement.
+-- The paper's starred examples, A to J, of the rules themselves, under one statement; and D's bundle written.
 --
 --   StarredExamples   a field for each example
 --   Gives d o k       a descent gives this row number, in so many steps
@@ -22,6 +22,9 @@ use Rattle.completing.specs.declared.CompleteAnswer.{CompleteAnswer}
 use Rattle.completing.specs.declared.CompleteAnswer.the-variants.{Rows, Refused}
 use Rattle.counts.specs.Counts.{countAt, polynomialAt, steadyOf}
 use Rattle.listing.specs.Text.{bundleText}
+use Rattle.packing.specs.Operation.{WritePromise}
+use Rattle.packing.specs.declared.WriteAnswer.{WriteAnswer}
+use Rattle.packing.specs.declared.WriteAnswer.the-variants as write
 
 -- a descent gives this row number, in so many steps
 pub record Gives (d : Descent) (o : Option ℕ) (k : ℕ) : Type 0 where
@@ -51,3 +54,8 @@ pub record StarredExamples : Type 0 where
   -- D's rows with 6 bytes of room are accepted, with 5 refused by 8
   pub J : ((buffer : List ℕ) (answer : CompleteAnswer) (after : List ℕ) → length buffer ≡ 6 → CompletePromise 2 bytesD buffer answer after → answer ≡ Rows 3)
       × ((buffer : List ℕ) (answer : CompleteAnswer) (after : List ℕ) → length buffer ≡ 5 → CompletePromise 2 bytesD buffer answer after → answer ≡ Refused 8)
+  -- D's rows, written with 10 bytes of room, are the listing's bundle; with 9 they are refused by 8
+  pub D-written : ((buffer : List ℕ) (answer : WriteAnswer) (after : List ℕ) → length buffer ≡ 10 → WritePromise 2 (2 ∷ []) bytesD buffer answer after
+      → (answer ≡ write.Length 10) × (after ≡ bundleD))
+      × ((buffer : List ℕ) (answer : WriteAnswer) (after : List ℕ) → length buffer ≡ 9 → WritePromise 2 (2 ∷ []) bytesD buffer answer after
+      → answer ≡ write.Refused 8)

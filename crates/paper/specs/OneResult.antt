@@ -23,8 +23,11 @@ use Rattle.counting.specs.declared.SteadyAnswer.{SteadyAnswer}
 use Rattle.bundle.specs.Operation.{LocatePromise, OpenPromise, SameOpened}
 use Rattle.bundle.specs.declared.Located.{Located}
 use Rattle.bundle.specs.declared.OpenedTable.{OpenedTable}
+use Rattle.packing.specs.Operation.{WritePromise}
+use Rattle.packing.specs.declared.WriteAnswer.{WriteAnswer}
 use Rattle.listing.specs.Operation.{PartPromise}
 use Rattle.interface.specs.Exports.{MarksExport, InsideExport, CompleteExport, FindExport, CountExport, PolynomialExport, SteadyExport, OpenExport}
+use Rattle.interface.specs.Exports.{WriteExport}
 
 pub record OneResult : Type 0 where
   pub marks : (n : ℕ) (table buffer : List ℕ) (a b : MarksAnswer) (x y : List ℕ) → MarksPromise n table buffer a x
@@ -40,6 +43,8 @@ pub record OneResult : Type 0 where
   pub opened : (bundle : RefT (List ℕ)) (j : ℕ) (a b : OpenedTable) → OpenPromise bundle j a → OpenPromise bundle j b → SameOpened a b
   pub part : (bundle : List ℕ) (j : ℕ) (before : List ℕ) (r s : ℕ) (x y : List ℕ) → PartPromise bundle j before r x
       → PartPromise bundle j before s y → (r ≡ s) × (x ≡ y)
+  pub write : (n : ℕ) (counts tables buffer : List ℕ) (a b : WriteAnswer) (x y : List ℕ) → WritePromise n counts tables buffer a x
+      → WritePromise n counts tables buffer b y → (a ≡ b) × (x ≡ y)
 
 pub record OneExport : Type 0 where
   pub marks : (n : ℕ) (table buffer : List ℕ) (m k : ℕ) (x y : List ℕ) → MarksExport n table buffer m x → MarksExport n table buffer k y → (m ≡ k) × (x ≡ y)
@@ -51,3 +56,5 @@ pub record OneExport : Type 0 where
   pub polynomial : (n : ℕ) (table : List ℕ) (s m k : ℕ) (v w : ℤ) → PolynomialExport n table s m v → PolynomialExport n table s k w → (m ≡ k) × (v ≡ w)
   pub steady : (n : ℕ) (table : List ℕ) (m k v w : ℕ) → SteadyExport n table m v → SteadyExport n table k w → (m ≡ k) × (v ≡ w)
   pub opened : (bundle : List ℕ) (j m k n o r s p q : ℕ) → OpenExport bundle j m n r p → OpenExport bundle j k o s q → (m ≡ k) × (n ≡ o) × (r ≡ s) × (p ≡ q)
+  pub write : (n : ℕ) (counts tables buffer : List ℕ) (m k c d : ℕ) (x y : List ℕ) → WriteExport n counts tables buffer m c x
+      → WriteExport n counts tables buffer k d y → (m ≡ k) × (c ≡ d) × (x ≡ y)

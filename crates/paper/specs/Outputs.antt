@@ -32,9 +32,11 @@ use Rattle.counting.specs.declared.PolynomialAnswer.{PolynomialAnswer}
 use Rattle.counting.specs.declared.SteadyAnswer.{SteadyAnswer}
 use Rattle.bundle.specs.Format.{variablesOf, tableOf}
 use Rattle.bundle.specs.Checks.{bundleChecks, openChecks}
+use Rattle.packing.specs.Operation.{writeChecks}
 use Rattle.listing.specs.Operation.{PartPromise}
 use Rattle.listing.specs.Text.{completedText, noRoomLine, refusalLine, partText, partsText, bundleText}
 use Rattle.interface.specs.Exports.{MarksExport, InsideExport, CompleteExport, FindExport, CountExport, PolynomialExport, SteadyExport, OpenExport}
+use Rattle.interface.specs.Exports.{WriteExport}
 use Rattle.paper.specs.Demands.{Settled}
 
 pub record ValueDemand : Type 0 where
@@ -62,6 +64,8 @@ pub record ExportDemand : Type 1 where
       → Settled (steadyChecks n table) number × (0 < number → degree ≡ 0)
   pub opened : (bundle : List ℕ) (j number n count offset : ℕ) → OpenExport bundle j number n count offset
       → Settled (openChecks bundle j) number × (0 < number → (n ≡ 0) × (count ≡ 0) × (offset ≡ 0))
+  pub write : (n : ℕ) (counts tables buffer : List ℕ) (number size : ℕ) (after : List ℕ) → WriteExport n counts tables buffer number size after
+      → Settled (writeChecks n counts tables (length buffer)) number × (0 < number → (size ≡ 0) × (after ≡ buffer))
 
 pub record RowDemand : Type 0 where
   pub inside : (n : ℕ) (table query : List ℕ) (number row : ℕ) → InsideExport n table query number row → number ≡ 0

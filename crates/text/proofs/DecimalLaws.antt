@@ -13,8 +13,8 @@ use native.Mathlib.Nat.{div-eq-of-lt, mod-eq-of-lt, not-suc-le-zero, pow-suc}
 use native.Mathlib.Omega.{arith}
 use lib.ListN.{length, length-append}
 use Rattle.text.specs.Decimal.{digit, digitsOf, decimal, valueFrom}
-use Rattle.text.specs.Written.{Wrote}
-use Rattle.text.proofs.WrittenLaws.{wrote-as, wrote-then}
+use Rattle.writing.specs.Written.{Wrote}
+use Rattle.writing.proofs.WrittenLaws.{wrote-as, wrote-then}
 
 -- tens are fewer than the number
 tens-less : (x : ℕ) → suc x / 10 ≤ x

@@ -1,3 +1,2 @@
--- The laws of both.
-pub mod WrittenLaws
+-- The laws of numbers as text.
 pub mod DecimalLaws

@@ -1,3 +1,2 @@
--- Numbers and lines as text, and text put into a buffer.
+-- Numbers and lines as text.
 pub mod Decimal
-pub mod Written

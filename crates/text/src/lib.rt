@@ -1,18 +1,9 @@
 // Text as bytes in a lent buffer. Each writer puts its text from a place on, leaves every other byte as it was, and answers the place behind the text.
-ghost use mathlib.Core.List.{[], _∷_};
-ghost use Prim.Native.Nat.{_+_, _≤_, _<_};
+use writing::put_byte;
+ghost use Prim.Native.Nat.{_+_, _≤_};
 ghost use lib.ListN.{length};
 ghost use Rattle.text.specs.Decimal.{decimal, field};
-ghost use Rattle.text.specs.Written.{Wrote};
-
-// Writes one byte.
-pub fn put_byte(out: &mut [u8], at: usize, byte: u8) -> usize
-    requires { ⌜ at < length (now out) ⌝ }
-    ensures { λ r. ⌜ Wrote (now (out .entry)) at (byte ∷ []) r (now (out .exit)) ⌝ }
-{
-    out[at] = byte;
-    at + 1
-}
+ghost use Rattle.writing.specs.Written.{Wrote};
 
 // Writes a number in decimal digits.
 pub fn put_number(out: &mut [u8], at: usize, x: usize) -> usize

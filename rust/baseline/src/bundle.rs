@@ -1,4 +1,4 @@
-//! Opening a table of a bundle with all its checks.
+//! Opening a table of a bundle and writing a bundle, each with all its checks.
 
 use crate::packed::entries_are_small;
 
@@ -26,4 +26,31 @@ pub fn open(bundle: &[u8], table: usize) -> Option<(usize, &[u8])> {
     }
     let sound = place == bundle.len() && entries_are_small(&bundle[header..]);
     wanted.filter(|_| sound).map(|part| (n, &bundle[part]))
+}
+
+/// Writes the bundle of the tables to the buffer's front and gives its length; nothing where a part has a fault or the
+/// bundle does not fit.
+pub fn write(n: usize, counts: &[u16], tables: &[u8], buffer: &mut [u8]) -> Option<usize> {
+    let header = 2 + 4 * counts.len();
+    let length = header + tables.len();
+    if !is_sound(n, counts, tables) || length > 65_535 || length > buffer.len() {
+        return None;
+    }
+    buffer[0] = n as u8;
+    buffer[1] = counts.len() as u8;
+    let mut place = header;
+    for (entry, &count) in buffer[2..header].chunks_exact_mut(4).zip(counts) {
+        entry[..2].copy_from_slice(&count.to_le_bytes());
+        entry[2..].copy_from_slice(&(place as u16).to_le_bytes());
+        place += n * usize::from(count);
+    }
+    buffer[header..length].copy_from_slice(tables);
+    Some(length)
+}
+
+/// n, the number of tables, their rows, bytes and entries are as they must be.
+fn is_sound(n: usize, counts: &[u16], tables: &[u8]) -> bool {
+    let rows = || counts.iter().map(|&count| usize::from(count)).sum::<usize>();
+    let sizes = (1..=6).contains(&n) && (1..=16).contains(&counts.len()) && tables.len() == n * rows();
+    sizes && counts.iter().all(|&count| count <= 4096) && entries_are_small(tables)
 }

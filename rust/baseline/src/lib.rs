@@ -4,7 +4,7 @@
 //! - `slices`: the recursion over slices on flat bytes, without packing.
 //! - `division`: marks of ascending rows, find by scan and by descent.
 //! - `counting`: all checks and the sum over the cones.
-//! - `bundle`: opening a table of a bundle. `listing`: the whole output of `janet`.
+//! - `bundle`: opening a table of a bundle, writing a bundle. `listing`: the whole output of `janet`.
 //!
 //! Tables are flat bytes, n a row, and are taken to be valid except where a check is what is measured.
 

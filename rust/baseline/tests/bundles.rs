@@ -2,6 +2,7 @@
 
 use baseline::{bundle, listing};
 use inputs::bundles;
+use inputs::parts::{self, Parts};
 use inputs::random::Random;
 
 /// How many bundles a test takes.
@@ -47,4 +48,35 @@ fn listings_agree() {
         let written = listing::listing(&bytes).map(|text| String::from_utf8(text).expect("plain letters"));
         assert_eq!(written, wanted, "{bytes:?}");
     }
+}
+
+/// The parts of a sound bundle, of one of 65,535 bytes or of one too long, or parts with faults.
+fn any_parts(random: &mut Random) -> Parts {
+    match random.below(100) {
+        0 => parts::longest(random),
+        1 => parts::beyond(random),
+        2..=50 => {
+            let sound = parts::several(random, 1, 6);
+            parts::damage(random, sound)
+        }
+        _ => parts::several(random, 1, 16),
+    }
+}
+
+#[test]
+fn written_bundles_agree() {
+    let mut random = Random::new(3);
+    let all: Vec<Parts> = (0..BUNDLES).map(|_| any_parts(&mut random)).collect();
+    let mut answered = 0;
+    for parts in [all, parts::at_limits()].concat() {
+        let exact = parts.length();
+        for length in [0, exact - 1, exact, exact + 1, 70_000] {
+            let (mut buffer, mut wanted) = (vec![200; length], vec![200; length]);
+            let bytes = second::writer::write(parts.n, &parts.counts, &parts.tables, &mut wanted).ok();
+            assert_eq!(bundle::write(parts.n, &parts.counts, &parts.tables, &mut buffer), bytes, "{length}, {parts:?}");
+            assert_eq!(buffer, wanted, "{length}, {parts:?}");
+            answered += usize::from(bytes.is_some());
+        }
+    }
+    assert!(answered >= BUNDLES, "{answered} bundles were written");
 }

@@ -1,10 +1,10 @@
 //! Times of the library, through its archive, beside quick plain Rust (`baseline`) and a naive program (`second`).
 //!
-//! `bench [--janet PATH] [PART ..]`, a part being completion, find, marks, inside, count or open; all of them where
-//! none is named. Each time is the median of several rounds in which all programs take turns, in processor time. The
-//! ratio is ours to the quickest plain program's; a line that ends in OVER breaks its limit. With `--janet` the program
-//! is run whole, timed by the wall, beside the programs `baseline` and `second`, which are looked for beside `bench`
-//! itself.
+//! `bench [--janet PATH] [PART ..]`, a part being completion, find, marks, inside, count, open or write; all of them
+//! where none is named. Each time is the median of several rounds in which all programs take turns, in processor time.
+//! The ratio is ours to the quickest plain program's; a line that ends in OVER breaks its limit. With `--janet` the
+//! program is run whole, timed by the wall, beside the programs `baseline` and `second`, which are looked for beside
+//! `bench` itself.
 
 mod parts;
 
@@ -16,13 +16,14 @@ use std::process::exit;
 type Part = fn() -> bool;
 
 /// The parts that can be named, in the order in which they are run.
-const PARTS: [(&str, Part); 6] = [
+const PARTS: [(&str, Part); 7] = [
     ("completion", parts::completion),
     ("find", parts::find),
     ("marks", parts::marks),
     ("inside", parts::inside),
     ("count", parts::count),
     ("open", parts::open),
+    ("write", parts::write),
 ];
 
 fn main() {

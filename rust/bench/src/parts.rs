@@ -245,6 +245,39 @@ pub fn open() -> bool {
     true
 }
 
+/// Writing a bundle of 16 tables with n = 1, so that their bytes make up any length.
+pub fn write() -> bool {
+    head("write a bundle of 16 tables", &["plain", "second"]);
+    let mut kept = true;
+    for bytes in [16_384, 32_768, 65_535] {
+        kept &= one_write(&bundle(1, bytes, 51));
+    }
+    kept
+}
+
+/// The bundle is taken apart and written again.
+fn one_write(bundle: &[u8]) -> bool {
+    let open = |table| baseline::bundle::open(bundle, table).expect("a sound bundle").1;
+    let bodies = (0..16).map(open).collect::<Vec<&[u8]>>();
+    let counts: Vec<u16> = bodies.iter().map(|body| body.len() as u16).collect();
+    let (counts, tables) = (&counts[..], &bodies.concat()[..]);
+    let mut buffers = [vec![0; bundle.len()], vec![0; bundle.len()], vec![0; bundle.len()]];
+    let [ours, plain, naive] = &mut buffers;
+    let lengths = [
+        rocaplanh::write(1, counts, tables, ours).ok(),
+        baseline::bundle::write(1, counts, tables, plain),
+        second::writer::write(1, counts, tables, naive).ok(),
+    ];
+    assert!(lengths == [Some(bundle.len()); 3] && ours == bundle && plain == bundle && naive == bundle);
+    let mut jobs: Vec<Job> = vec![
+        Box::new(|| keep(rocaplanh::write(1, hidden(counts), hidden(tables), ours))),
+        Box::new(|| keep(baseline::bundle::write(1, hidden(counts), hidden(tables), plain))),
+        Box::new(|| keep(second::writer::write(1, hidden(counts), hidden(tables), naive))),
+    ];
+    let times = side_by_side(&mut jobs);
+    line(&format!("{} bytes", bundle.len()), &times, 1, Limit::Times(3.0))
+}
+
 /// The program `janet` whole, with the start of a process, beside the programs `baseline` and `second`.
 pub fn janet(programs: [&Path; 3]) -> bool {
     head("janet, whole runs", &["plain", "second"]);

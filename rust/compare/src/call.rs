@@ -6,7 +6,7 @@
 
 use rocaplanh::declarations as archive;
 use rocaplanh::NO_ROW;
-use second::{bundle, operations};
+use second::{bundle, operations, writer};
 use std::ptr;
 
 /// Bytes before and behind each lent buffer, which no call may touch.
@@ -27,10 +27,12 @@ pub enum Call {
     Polynomial { n: usize, table: Vec<u8>, degree: u32 },
     Steady { n: usize, table: Vec<u8> },
     Open { bundle: Vec<u8>, table: usize },
+    Write { n: usize, counts: Vec<u16>, tables: Vec<u8>, buffer: usize },
 }
 
 /// The names of the operations, in the order of `Call::operation`.
-pub const OPERATIONS: [&str; 8] = ["marks", "inside", "complete", "find", "count", "polynomial", "steady", "open"];
+pub const OPERATIONS: [&str; 9] =
+    ["marks", "inside", "complete", "find", "count", "polynomial", "steady", "open", "write"];
 
 impl Call {
     /// The place of this call's operation in `OPERATIONS`.
@@ -44,6 +46,7 @@ impl Call {
             Call::Polynomial { .. } => 5,
             Call::Steady { .. } => 6,
             Call::Open { .. } => 7,
+            Call::Write { .. } => 8,
         }
     }
 }
@@ -78,7 +81,7 @@ impl Answer {
     }
 }
 
-/// A buffer between its guards. No byte of it is an exponent or a mark, so that each write shows.
+/// A buffer between its guards. No byte of it is an exponent or a mark, so that each write of one shows.
 fn lend(length: usize) -> Vec<u8> {
     (0..length + 2 * GUARD).map(|at| 128 + (at * 37 % 128) as u8).collect()
 }
@@ -90,11 +93,11 @@ fn part(lent: &mut [u8]) -> &mut [u8] {
 }
 
 /// A slice's pointer as a C program may pass it: NULL when there is nothing to point to.
-fn pointer(bytes: &[u8]) -> *const u8 {
-    if bytes.is_empty() {
+fn pointer<T>(slice: &[T]) -> *const T {
+    if slice.is_empty() {
         ptr::null()
     } else {
-        bytes.as_ptr()
+        slice.as_ptr()
     }
 }
 
@@ -118,6 +121,7 @@ pub fn by_archive(call: &Call) -> Answer {
         Call::Polynomial { n, table, degree } => archive_polynomial(*n, table, *degree),
         Call::Steady { n, table } => archive_steady(*n, table),
         Call::Open { bundle, table } => archive_open(bundle, *table),
+        Call::Write { n, counts, tables, buffer } => archive_write(*n, counts, tables, *buffer),
     }
 }
 
@@ -181,6 +185,25 @@ fn archive_open(bundle: &[u8], table: usize) -> Answer {
     Answer::numbers(refusal, [n.into(), rows.into(), offset.into()])
 }
 
+fn archive_write(n: usize, counts: &[u16], tables: &[u8], buffer: usize) -> Answer {
+    let mut lent = lend(buffer);
+    let mut length = UNWRITTEN;
+    let bundle = part(&mut lent);
+    let refusal = unsafe {
+        archive::rocaplanh_write(
+            n,
+            pointer(counts),
+            counts.len(),
+            pointer(tables),
+            tables.len(),
+            pointer_mut(bundle),
+            bundle.len(),
+            &mut length,
+        )
+    };
+    Answer { refusal, numbers: [length.into(), 0, 0], lent }
+}
+
 /// The second program's answer.
 pub fn by_second(call: &Call) -> Answer {
     match call {
@@ -202,6 +225,9 @@ pub fn by_second(call: &Call) -> Answer {
         Call::Open { bundle, table } => Answer::of(
             bundle::open(bundle, *table).map(|opened| [opened.n, opened.rows, opened.offset].map(|part| part as u64)),
         ),
+        Call::Write { n, counts, tables, buffer } => {
+            second_lent(*buffer, |lent| writer::write(*n, counts, tables, lent))
+        }
     }
 }
 

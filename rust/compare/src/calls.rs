@@ -1,13 +1,14 @@
 //! Random calls of every operation, each answered by the archive and by the second program.
 //!
 //! - `many`: calls on short tables, with long and damaged ones among them.
-//! - `limits`: tables of bundles at the limits and past them.
+//! - `limits`: tables of bundles at the limits and past them, and bundles written from parts that are.
 //! - `large`: for n from 3 to 6, tables whose completion has more than 500 rows, under every operation.
 
 use crate::call::{by_archive, by_second, Call};
 use crate::report::Report;
 use crate::tally::Tally;
 use inputs::bundles;
+use inputs::parts::{self, Parts};
 use inputs::random::Random;
 use inputs::tables::{self, Table};
 
@@ -28,7 +29,7 @@ pub fn many(random: &mut Random, calls: usize, report: &mut Report, tally: &mut 
 
 /// A call of some operation, valid or damaged.
 fn any_call(random: &mut Random) -> Call {
-    match random.below(16) {
+    match random.below(18) {
         0 | 1 => marks_call(random),
         2 | 3 => inside_call(random),
         4..=6 => complete_call(random),
@@ -36,7 +37,8 @@ fn any_call(random: &mut Random) -> Call {
         10 | 11 => count_call(random),
         12 => polynomial_call(random),
         13 => steady_call(random),
-        _ => open_call(random),
+        14 | 15 => open_call(random),
+        _ => write_call(random),
     }
 }
 
@@ -184,11 +186,47 @@ fn open_call(random: &mut Random) -> Call {
     Call::Open { bundle, table }
 }
 
-/// Opens tables of the bundles at the limits and past them.
+fn write_call(random: &mut Random) -> Call {
+    let parts = any_parts(random);
+    let exact = parts.length();
+    let buffer = if random.once_in(16) { random.pick(&[65_535, 65_536, 70_000]) } else { buffer(random, exact) };
+    write_of(&parts, buffer)
+}
+
+/// The parts of a sound bundle, damaged ones, or ones of a bundle at the limit of its bytes or past it.
+fn any_parts(random: &mut Random) -> Parts {
+    match random.below(80) {
+        0 => parts::longest(random),
+        1 => parts::beyond(random),
+        2 => {
+            let long = parts::beyond(random);
+            parts::damage(random, long)
+        }
+        3..=46 => {
+            let sound = parts::several(random, 1, 4);
+            parts::damage(random, sound)
+        }
+        _ => parts::several(random, 1, 16),
+    }
+}
+
+/// The call that writes these parts.
+fn write_of(parts: &Parts, buffer: usize) -> Call {
+    Call::Write { n: parts.n, counts: parts.counts.clone(), tables: parts.tables.clone(), buffer }
+}
+
+/// Opens tables of the bundles at the limits and past them, and writes bundles from such parts into buffers of all
+/// sizes.
 pub fn limits(report: &mut Report, tally: &mut Tally) {
     for bundle in bundles::at_limits() {
         for table in [0, 1, 2, 15, 16, 17] {
             compare(Call::Open { bundle: bundle.clone(), table }, report, tally);
+        }
+    }
+    for parts in parts::at_limits() {
+        let exact = parts.length();
+        for buffer in [0, exact - 1, exact, exact + 1, exact + 70_000] {
+            compare(write_of(&parts, buffer), report, tally);
         }
     }
 }

@@ -1,7 +1,7 @@
 //! The paper's examples A to M and the figures of document 002, through the wrapper.
 
 use crate::report::Report;
-use rocaplanh::{complete, completed, count, find, inside, marks, open, polynomial, steady, Found};
+use rocaplanh::{complete, completed, count, find, inside, marks, open, polynomial, steady, written, Found};
 
 /// A table from rows written as digits.
 fn digits(rows: &[&str]) -> Vec<u8> {
@@ -52,6 +52,7 @@ fn a_to_e(report: &mut Report) {
     let bundle = [2, 1, 2, 0, 6, 0, 2, 1, 0, 2];
     let opened = open(&bundle, 0).map(|table| (table.n, table.rows, table.body.to_vec()));
     report.same("D: open", &opened, &Ok((2, 2, LISTED.to_vec())), &"D");
+    report.same("D: written", &written(2, &[2], &LISTED), &Ok(bundle.to_vec()), &"D");
     report.same("E: completed", &completed(2, &[1, 0, 1, 0]), &Ok(vec![1, 0]), &"E");
     report.same("inside", &inside(2, &LISTED, &[1, 2]), &Ok(Some(1)), &"D");
 }

@@ -13,6 +13,7 @@ mod calls;
 mod figures;
 mod process;
 mod report;
+mod rounds;
 mod runs;
 mod streams;
 mod tally;
@@ -44,11 +45,13 @@ fn main() {
     part("examples and figures");
     boxes::all(&mut Random::new(wishes.seed ^ 1), 400 * wishes.times, &mut report);
     part("small boxes");
-    calls::many(&mut Random::new(wishes.seed ^ 2), 240_000 * wishes.times, &mut report, &mut tally);
+    calls::many(&mut Random::new(wishes.seed ^ 2), 270_000 * wishes.times, &mut report, &mut tally);
     calls::limits(&mut report, &mut tally);
     part("random calls");
     calls::large(&mut Random::new(wishes.seed ^ 3), 110 * wishes.times, &mut report, &mut tally);
     part("large tables");
+    rounds::all(&mut Random::new(wishes.seed ^ 6), 1500 * wishes.times, &mut report);
+    part("round trips");
     if let Some(program) = &wishes.janet {
         runs::all(program, &mut Random::new(wishes.seed ^ 4), 300 * wishes.times, &mut report);
         part("runs of janet");

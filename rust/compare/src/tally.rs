@@ -6,6 +6,9 @@ use rocaplanh::NO_ROW;
 /// Refusal numbers run from 0 (an answer) to 11.
 const NUMBERS: usize = 12;
 
+/// The refusals that the writer may give.
+const WRITE_REFUSALS: [usize; 6] = [1, 2, 3, 4, 8, 9];
+
 /// Counts of what the calls gave.
 #[derive(Default)]
 pub struct Tally {
@@ -51,10 +54,15 @@ impl Tally {
         self.answers.iter().flatten().sum()
     }
 
+    /// How often an operation gave each number.
+    fn answers(&self, operation: &str) -> &[usize; NUMBERS] {
+        let place = OPERATIONS.iter().position(|name| *name == operation).expect("a known operation");
+        &self.answers[place]
+    }
+
     /// How often an operation was called.
     fn called(&self, operation: &str) -> usize {
-        let place = OPERATIONS.iter().position(|name| *name == operation).expect("a known operation");
-        self.answers[place].iter().sum()
+        self.answers(operation).iter().sum()
     }
 
     /// How often a number was given.
@@ -93,6 +101,10 @@ impl Tally {
         }
         for (name, row) in OPERATIONS.iter().zip(&self.answers) {
             demand(row[0] >= 1000, format!("{name} answered fewer than 1,000 times"));
+        }
+        for number in WRITE_REFUSALS {
+            let enough = self.answers("write")[number] >= 1000;
+            demand(enough, format!("write was refused by {number} fewer than 1,000 times"));
         }
         demand(self.adding * 5 >= self.called("complete"), "fewer than a fifth of the completions add rows".into());
         for n in 3..=6 {

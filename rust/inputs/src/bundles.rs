@@ -3,6 +3,7 @@
 //! - `pack`: the bundle of some tables. `several`: a sound bundle of several short tables.
 //! - `full`: one of exactly 65,535 bytes. `damage`: a bundle with a fault or two. `noise`: random bytes.
 //! - `at_limits`: bundles at each limit and just past it. `paper`: the paper's own.
+//! - `several_tables`, `full_tables`, `spread`: the tables alone.
 
 use crate::random::Random;
 use crate::tables::{self, Table};
@@ -29,10 +30,15 @@ pub fn paper() -> Vec<u8> {
 
 /// A sound bundle of short tables, complete ones and others.
 pub fn several(random: &mut Random, least: usize, most: usize) -> Vec<u8> {
+    let (n, bodies) = several_tables(random, least, most);
+    pack(n, &bodies)
+}
+
+/// The tables of such a bundle, and their n.
+pub fn several_tables(random: &mut Random, least: usize, most: usize) -> (usize, Vec<Vec<u8>>) {
     let n = random.between(1, 6);
     let count = random.between(least, most);
-    let bodies: Vec<Vec<u8>> = (0..count).map(|_| any_table(random, n).bytes).collect();
-    pack(n, &bodies)
+    (n, (0..count).map(|_| any_table(random, n).bytes).collect())
 }
 
 /// A short table, or a complete one, or one whose completion does not fit.
@@ -63,17 +69,23 @@ pub fn at_limits() -> Vec<Vec<u8>> {
 }
 
 /// The bodies of 16 tables that make a bundle of so many bytes, or a few less where n does not divide them.
-fn spread(n: usize, bytes: usize, mut entry: impl FnMut() -> u8) -> Vec<Vec<u8>> {
+pub fn spread(n: usize, bytes: usize, mut entry: impl FnMut() -> u8) -> Vec<Vec<u8>> {
     let rows = (bytes - 2 - 4 * MOST_TABLES) / n;
     let rows_of = |table: usize| rows / MOST_TABLES + usize::from(table < rows % MOST_TABLES);
     (0..MOST_TABLES).map(|table| (0..rows_of(table) * n).map(|_| entry()).collect()).collect()
 }
 
-/// A sound bundle of exactly 65,535 bytes: 16 tables, and n such that the bodies fill the rest.
+/// A sound bundle of exactly 65,535 bytes.
 pub fn full(random: &mut Random) -> Vec<u8> {
+    let (n, bodies) = full_tables(random);
+    pack(n, &bodies)
+}
+
+/// The tables of such a bundle: 16 of them, and n such that the bodies fill what the header leaves.
+pub fn full_tables(random: &mut Random) -> (usize, Vec<Vec<u8>>) {
     let n = random.pick(&[1, 3]);
     let largest = random.pick(&[1, 6, 50]);
-    pack(n, &spread(n, MOST_BYTES, || random.byte(largest)))
+    (n, spread(n, MOST_BYTES, || random.byte(largest)))
 }
 
 /// Random bytes, with a plausible beginning half of the time.

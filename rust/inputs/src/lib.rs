@@ -1,9 +1,11 @@
 //! Random inputs for the comparisons: the same seed gives the same inputs on every machine.
 //!
-//! - `random`: the numbers. `tables`: tables for every operation. `bundles`: bundles of them.
+//! - `random`: the numbers. `tables`: tables for every operation. `bundles`: bundles of them. `parts`: what a bundle is
+//!   written from.
 
 #![warn(missing_docs)]
 
 pub mod bundles;
+pub mod parts;
 pub mod random;
 pub mod tables;

@@ -63,4 +63,16 @@ extern "C" {
         rows: *mut u32,
         offset: *mut u32,
     ) -> u32;
+
+    /// The bundle of some tables, to the front of `buffer`, and its length. `counts` has a number for each table.
+    pub fn rocaplanh_write(
+        n: usize,
+        counts: *const u16,
+        counts_length: usize,
+        tables: *const u8,
+        tables_length: usize,
+        buffer: *mut u8,
+        buffer_length: usize,
+        length: *mut u32,
+    ) -> u32;
 }

@@ -3,8 +3,8 @@
 //! A table is rows of n bytes end to end; `include/rocaplanh.h` in the repository says what each operation does. What C
 //! must promise of its pointers, Rust's slices promise by themselves, so that nothing is left to the caller here.
 //!
-//! - `marks`, `inside`, `complete`, `find`, `count`, `polynomial`, `steady`, `open`: the operations.
-//! - `completed`: `complete` into a vector of its own.
+//! - `marks`, `inside`, `complete`, `find`, `count`, `polynomial`, `steady`, `open`, `write`: the operations.
+//! - `completed`, `written`: `complete` and `write` into a vector of its own.
 //! - `Refusal`: why there is no answer. `declarations`: the C functions themselves.
 
 #![warn(missing_docs)]
@@ -17,6 +17,9 @@ use declarations::*;
 
 /// The most rows of a table.
 pub const MOST_ROWS: usize = 4096;
+
+/// The most bytes of a bundle.
+pub const MOST_BUNDLE_BYTES: usize = 65_535;
 
 /// The row number by which the C functions say that there is none.
 pub const NO_ROW: u32 = 65_535;
@@ -36,14 +39,14 @@ impl fmt::Display for Refusal {
     fn fmt(&self, out: &mut fmt::Formatter<'_>) -> fmt::Result {
         let reason = match self.0 {
             1 => "the number of variables is not 1 to 6",
-            2 => "the table's length is no multiple of the number of variables",
-            3 => "the table has more than 4,096 rows",
+            2 => "the table's length is no multiple of the number of variables, or not what the row counts demand",
+            3 => "a table has more than 4,096 rows",
             4 => "an entry is above 50",
             5 => "the query's length, the degree or the table number is wrong",
             6 => "the rows do not ascend strictly",
             7 => "the table is not complete",
-            8 => "the lent buffer is too small",
-            9 => "the bundle's size, table count or header is wrong",
+            8 => "the answer is longer than the lent buffer, than 4,096 rows, or than the 65,535 bytes of a bundle",
+            9 => "the number of tables is not 1 to 16, or the bundle's size or header is wrong",
             10 => "an offset is not where that table must begin",
             11 => "a body passes the bundle's end, or bytes remain after the last",
             _ => "refused",
@@ -154,4 +157,46 @@ pub fn open(bundle: &[u8], table: usize) -> Result<Opened<'_>, Refusal> {
     let (n, rows, offset) = (n as usize, rows as usize, offset as usize);
     answered(returned, ())?;
     Ok(Opened { n, rows, body: &bundle[offset..offset + n * rows] })
+}
+
+/// Writes the bundle of some tables to the front of `buffer` and gives its length; bytes behind stay. `counts` has the
+/// number of rows of each table, and `tables` their rows end to end. What is written opens as these tables:
+///
+/// ```
+/// let mut buffer = [9; 12];
+/// let length = rocaplanh::write(2, &[2], &[2, 1, 0, 2], &mut buffer)?;
+/// assert_eq!(buffer, [2, 1, 2, 0, 6, 0, 2, 1, 0, 2, 9, 9]);
+/// assert_eq!(rocaplanh::open(&buffer[..length], 0)?.body, [2, 1, 0, 2]);
+/// # Ok::<(), rocaplanh::Refusal>(())
+/// ```
+pub fn write(n: usize, counts: &[u16], tables: &[u8], buffer: &mut [u8]) -> Result<usize, Refusal> {
+    let mut length = 0;
+    let returned = unsafe {
+        rocaplanh_write(
+            n,
+            counts.as_ptr(),
+            counts.len(),
+            tables.as_ptr(),
+            tables.len(),
+            buffer.as_mut_ptr(),
+            buffer.len(),
+            &mut length,
+        )
+    };
+    answered(returned, length as usize)
+}
+
+/// The bundle of some tables in a vector of its own. Tables that were opened make their bundle again:
+///
+/// ```
+/// let bundle = [2, 1, 2, 0, 6, 0, 2, 1, 0, 2];
+/// let table = rocaplanh::open(&bundle, 0)?;
+/// assert_eq!(rocaplanh::written(table.n, &[table.rows as u16], table.body)?, bundle);
+/// # Ok::<(), rocaplanh::Refusal>(())
+/// ```
+pub fn written(n: usize, counts: &[u16], tables: &[u8]) -> Result<Vec<u8>, Refusal> {
+    let mut bundle = vec![0; MOST_BUNDLE_BYTES];
+    let length = write(n, counts, tables, &mut bundle)?;
+    bundle.truncate(length);
+    Ok(bundle)
 }

@@ -5,8 +5,9 @@
 //! - `division`: rules 1 to 4 and 6 by scanning all rows;
 //! - `completion`: rule 5 decided beginning by beginning, from the limit that its words give;
 //! - `counting`: rules 7 to 9 by slicing the rows, the polynomial by differences of counts;
-//! - `operations`: the eight operations on bytes, with the paper's refusals in the paper's order;
-//! - `bundle` and `listing`: the reader of bundles and all that the program `janet` writes.
+//! - `operations`: the seven operations on a table's bytes, with the paper's refusals in the paper's order;
+//! - `bundle` and `listing`: the reader of bundles and all that the program `janet` writes;
+//! - `writer`: the writer of bundles, which says for each place the byte that stands there.
 //!
 //! Places count from 0 in this crate: place 0 is the paper's variable 1. Row numbers count from 0.
 
@@ -18,6 +19,7 @@ pub mod counting;
 pub mod division;
 pub mod listing;
 pub mod operations;
+pub mod writer;
 
 /// The paper's number of a refusal, 1 to 11.
 pub type Refusal = u8;

@@ -5,7 +5,7 @@ use native.Mathlib.Omega.{arith}
 use mathlib.Core.Path.{_≡_}
 use lib.ListN.{length}
 use Rattle.bundle.proofs.ReadLaws.{found-within}
-use Rattle.text.proofs.WrittenLaws.{wrote-nothing}
+use Rattle.writing.proofs.WrittenLaws.{wrote-nothing}
 use Rattle.listing.specs.Text.{textSize}
 use Rattle.listing.proofs.PartLaws.{part-refused, part-silent, part-none, part-found, part-written, refusalLine-bound}
 use Rattle.listing.proofs.part_text_checked.Statement.{statement}

@@ -4,7 +4,7 @@ use native.Mathlib.Omega.{arith}
 use mathlib.Core.Path.{ap}
 use lib.ListN.{length}
 use Rattle.terms.specs.Rows.{rows}
-use Rattle.text.proofs.WrittenLaws.{wrote-as}
+use Rattle.writing.proofs.WrittenLaws.{wrote-as}
 use Rattle.listing.proofs.TableLaws.{marked-length, completed-ascends, completed-lines}
 use Rattle.listing.proofs.put_completed.Statement.{statement}
 use Rattle.listing.proofs.put_completed.Tie as tie

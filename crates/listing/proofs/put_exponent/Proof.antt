@@ -4,7 +4,7 @@ use native.Mathlib.Omega.{arith}
 use mathlib.Core.List.{[], _∷_}
 use lib.ListN.{length-append}
 use Rattle.text.specs.Decimal.{decimal, space}
-use Rattle.text.proofs.WrittenLaws.{wrote-then}
+use Rattle.writing.proofs.WrittenLaws.{wrote-then}
 use Rattle.listing.proofs.put_exponent.Statement.{statement}
 use Rattle.listing.proofs.put_exponent.Tie as tie
 

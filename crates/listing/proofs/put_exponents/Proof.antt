@@ -4,9 +4,9 @@ use native.Mathlib.Omega.{arith}
 use mathlib.Core.Path.{_≡_, refl, ap, _∙_}
 use Prim.Native.Nat.{ℕ, _-_, _≤_}
 use lib.ListN.{length, take}
-use Rattle.text.specs.Written.{Wrote}
+use Rattle.writing.specs.Written.{Wrote}
 use Rattle.listing.specs.Text.{spaced}
-use Rattle.text.proofs.WrittenLaws.{wrote-nothing, wrote-then, wrote-as}
+use Rattle.writing.proofs.WrittenLaws.{wrote-nothing, wrote-then, wrote-as}
 use Rattle.listing.proofs.TextLaws.{spaced-next, spaced-fits}
 use Rattle.listing.proofs.put_exponents.Statement.{statement}
 use Rattle.listing.proofs.put_exponents.Tie as tie

@@ -1,7 +1,7 @@
 -- The line part by part: the letter and the number, the second letter and 8, and the line feed.
 use borrow.Author.Needs.{needs}
 use native.Mathlib.Omega.{arith}
-use Rattle.text.proofs.WrittenLaws.{wrote-then, wrote-as}
+use Rattle.writing.proofs.WrittenLaws.{wrote-then, wrote-as}
 use Rattle.listing.proofs.TextLaws.{noRoomLine-length, noRoomLine-parts}
 use Rattle.listing.proofs.put_no_room_line.Statement.{statement}
 use Rattle.listing.proofs.put_no_room_line.Tie as tie

@@ -1,7 +1,7 @@
 -- The line part by part: the letter, the number behind a space, and the line feed.
 use borrow.Author.Needs.{needs}
 use native.Mathlib.Omega.{arith}
-use Rattle.text.proofs.WrittenLaws.{wrote-then, wrote-as}
+use Rattle.writing.proofs.WrittenLaws.{wrote-then, wrote-as}
 use Rattle.listing.proofs.TextLaws.{refusalLine-length, refusalLine-parts}
 use Rattle.listing.proofs.put_refusal_line.Statement.{statement}
 use Rattle.listing.proofs.put_refusal_line.Tie as tie

@@ -2,7 +2,7 @@
 use borrow.Author.Needs.{needs}
 use native.Mathlib.Omega.{arith}
 use lib.ListN.{take}
-use Rattle.text.proofs.WrittenLaws.{wrote-then, wrote-as}
+use Rattle.writing.proofs.WrittenLaws.{wrote-then, wrote-as}
 use Rattle.listing.proofs.TextLaws.{rowLine-length, rowLine-parts}
 use Rattle.listing.proofs.put_row_line.Statement.{statement}
 use Rattle.listing.proofs.put_row_line.Tie as tie

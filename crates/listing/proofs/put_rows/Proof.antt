@@ -7,8 +7,8 @@ use Rattle.terms.specs.Monomials.{Monomial, rowAt}
 use Rattle.terms.specs.Rows.{rows}
 use Rattle.terms.proofs.RowsLaws.{length-rows, row-size, row-read, row-variables}
 use Rattle.listing.specs.Text.{rowLine, rowLines}
-use Rattle.text.specs.Written.{Wrote}
-use Rattle.text.proofs.WrittenLaws.{wrote-nothing, wrote-then, wrote-as}
+use Rattle.writing.specs.Written.{Wrote}
+use Rattle.writing.proofs.WrittenLaws.{wrote-nothing, wrote-then, wrote-as}
 use Rattle.listing.proofs.TextLaws.{rowLines-next, rowLines-fits}
 use Rattle.listing.proofs.put_rows.Statement.{statement}
 use Rattle.listing.proofs.put_rows.Tie as tie

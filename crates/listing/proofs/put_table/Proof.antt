@@ -5,7 +5,7 @@ use native.Mathlib.Omega.{arith}
 use mathlib.Core.Path.{sym, ap}
 use lib.ListN.{length}
 use Rattle.terms.specs.Rows.{rows}
-use Rattle.text.proofs.WrittenLaws.{wrote-as}
+use Rattle.writing.proofs.WrittenLaws.{wrote-as}
 use Rattle.listing.proofs.BoundLaws.{tableText-full}
 use Rattle.listing.proofs.TableLaws.{made-rows, made-none}
 use Rattle.listing.proofs.put_table.Statement.{statement}

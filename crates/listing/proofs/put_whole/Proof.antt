@@ -5,7 +5,7 @@ use mathlib.Core.Path.{_≡_, refl}
 use Rattle.terms.specs.Rows.{rows}
 use Rattle.terms.proofs.RowsLaws.{length-rows}
 use Rattle.counts.specs.Counts.{steadyOf}
-use Rattle.text.proofs.WrittenLaws.{wrote-then, wrote-as}
+use Rattle.writing.proofs.WrittenLaws.{wrote-then, wrote-as}
 use Rattle.listing.proofs.BoundLaws.{wholeText-sum, wholeText-parts}
 use Rattle.listing.proofs.put_whole.Statement.{statement}
 use Rattle.listing.proofs.put_whole.Tie as tie

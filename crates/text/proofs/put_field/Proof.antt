@@ -1,7 +1,7 @@
 -- A space, then the number behind it.
 use borrow.Author.Needs.{needs}
 use native.Mathlib.Omega.{arith}
-use Rattle.text.proofs.WrittenLaws.{wrote-then}
+use Rattle.writing.proofs.WrittenLaws.{wrote-then}
 use Rattle.text.proofs.put_field.Statement.{statement}
 use Rattle.text.proofs.put_field.Tie as tie
 

@@ -9,7 +9,7 @@ use native.Mathlib.Numerals.{add-one}
 use native.Mathlib.Omega.{arith}
 use lib.ListN.{length, take, drop, set, length-append, take-append-drop}
 use lib.Seq.{length-take-le, take-at, drop-at, drop-drop, set-split}
-use Rattle.text.specs.Written.{written, Wrote}
+use Rattle.writing.specs.Written.{written, Wrote}
 
 -- the text, with what stands before it, ends at at + length s
 head-length : (o : List ℕ) (at : ℕ) (s : List ℕ) → at ≤ length o → length (take at o ++ s) ≡ at + length s

@@ -1,7 +1,9 @@
--- Text put into a lent buffer.
+-- Bytes put into a lent buffer.
 --
 --   written bytes at text   the bytes with the text from place `at` on; those before it and behind it are as they were
 --   Wrote before at text end after   the text was written from `at` to `end`, and nothing else was changed
+--
+-- A text is any bytes: letters and digits, or the bytes of a bundle.
 use mathlib.Core.Path.{_≡_}
 use mathlib.Core.List.{List, _++_}
 use Prim.Native.Nat.{ℕ, _+_}

@@ -1,8 +1,8 @@
 -- One store, and the place behind it.
 use borrow.Author.Needs.{needs}
-use Rattle.text.proofs.WrittenLaws.{wrote-byte}
-use Rattle.text.proofs.put_byte.Statement.{statement}
-use Rattle.text.proofs.put_byte.Tie as tie
+use Rattle.writing.proofs.WrittenLaws.{wrote-byte}
+use Rattle.writing.proofs.put_byte.Statement.{statement}
+use Rattle.writing.proofs.put_byte.Tie as tie
 
 slice-write-out : tie.Need-slice-write-out
 slice-write-out c = search needs

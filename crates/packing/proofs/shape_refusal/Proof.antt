@@ -1,0 +1,80 @@
+-- `shape_refusal` meets its contract: each return gives the first of the checks 1, 9, 2 and 3 that refuses; the tests before it have ruled out the earlier ones.
+use native.Mathlib.Omega.{arith}
+use mathlib.Core.Path.{_≡_, sym, _∙_}
+use Prim.Native.Nat.{_*_}
+use lib.ListN.{length}
+use denote.Ref.{now}
+use borrow.Author.Needs.{needs}
+use Rattle.packing.specs.GivenTables.{totalRows}
+use Rattle.packing.proofs.CheckLaws.{demanded-fits, shape-one, shape-nine, shape-two, shape-three, shape-passes}
+use Rattle.packing.proofs.shape_refusal.Statement.{statement}
+use Rattle.packing.proofs.shape_refusal.Tie as tie
+
+-- where the function begins, from behind the checks 1 and 9
+abbrev start : tie.Else4 → tie.Start
+start c = c .before .before .before .before .before .before
+
+-- what is known behind 2
+whole : (c : tie.Else5) → length (start (c .before .before) .args .tables .now)
+    ≡ totalRows (start (c .before .before) .args .counts .now) * start (c .before .before) .args .n
+whole c = rw (← c .before .total-rows .ensures .0) (c .if5 .left)
+
+returns : tie.Need-returns
+returns c = let a = c .before .before .before .args in shape-one (a .n) (a .counts .now) (a .tables .now) (λ h. omega (arith, h .0))
+
+returns-2 : tie.Need-returns-2
+returns-2 c = let a = c .before .before .before .before .args in shape-one (a .n) (a .counts .now) (a .tables .now) (λ h. omega (arith, h .1))
+
+returns-3 : tie.Need-returns-3
+returns-3 c =
+    let a = c .before .before .before .before .before .args in
+    shape-nine (a .n) (a .counts .now) (a .tables .now) (omega arith) (omega arith) (λ h. omega (arith, h .0))
+
+returns-4 : tie.Need-returns-4
+returns-4 c =
+    let a = c .before .before .before .before .before .before .args in
+    shape-nine (a .n) (a .counts .now) (a .tables .now) (omega arith) (omega arith) (λ h. omega (arith, h .1))
+
+total-rows-requires : tie.Need-total-rows-requires
+total-rows-requires c κs = search needs
+
+mul-if5 : tie.Need-mul-if5
+mul-if5 c =
+    let f = demanded-fits (c .total-rows .result) (start (c .before) .args .n) (c .total-rows .ensures .1) (omega arith) in
+    omega arith
+
+returns-5 : tie.Need-returns-5
+returns-5 c =
+    let a = start (c .before .before) .args in
+    shape-two (a .n) (a .counts .now) (a .tables .now) (omega arith) (omega arith) (omega arith) (omega arith)
+    (rw (← c .before .total-rows .ensures .0) (c .if5 .taken))
+
+has-large-count-requires : tie.Need-has-large-count-requires
+has-large-count-requires c κs = search needs
+
+returns-6 : tie.Need-returns-6
+returns-6 c =
+    let a = start (c .before .before .before .before) .args in
+    shape-three (a .n) (a .counts .now) (a .tables .now) (omega arith) (omega arith) (omega arith) (omega arith) (whole (c .before .before))
+    (sym (c .before .has-large-count .ensures) ∙ c .if6 .taken)
+
+returns-7 : tie.Need-returns-7
+returns-7 c =
+    let a = start (c .before .before .before .before) .args in
+    shape-passes (a .n) (a .counts .now) (a .tables .now) (omega arith) (omega arith) (omega arith) (omega arith) (whole (c .before .before))
+    (sym (c .before .has-large-count .ensures) ∙ c .if6 .left)
+
+pub shape-refusal-spec : {M : Type 1} → statement M
+shape-refusal-spec =
+    tie.close
+    (tie.spec
+    returns
+    returns-2
+    returns-3
+    returns-4
+    total-rows-requires
+    mul-if5
+    returns-5
+    has-large-count-requires
+    returns-6
+    returns-7)

@@ -88,11 +88,10 @@ pub example-D-written : (buffer : List ℕ) {answer : WriteAnswer} {after : List
 example-D-written buffer e p =
     let z : numberD (length buffer) ≡ 0 = ap numberD e ∙ ten .0 in
     let l : length buffer ≤ 10 = omega arith in
-    let behind : drop 10 buffer ≡ [] = drop-of-length-le buffer l in
-    (
+    let behind : drop 10 buffer ≡ [] = drop-of-length-le buffer l in (
       p .settled ∙ ap₂ writeAnswer (p .number ∙ z) (p .size ∙ ap lengthD e ∙ ten .1),
       p .writes ∙ answered-accepted (writeChecks 2 (2 ∷ []) bytesD (length buffer)) (writtenBuffer 2 (2 ∷ []) bytesD buffer) buffer z
-      ∙ rw (listing-packed, behind),
+          ∙ rw (listing-packed, behind),
     )
 
 pub example-D-short : (buffer : List ℕ) {answer : WriteAnswer} {after : List ℕ} → length buffer ≡ 9 → WritePromise 2 (2 ∷ []) bytesD buffer answer after

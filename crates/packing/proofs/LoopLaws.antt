@@ -2,13 +2,14 @@
 --
 --   large-here, large-later   a search for a count above 4,096: it ends here, or goes on behind
 --   Summed, summed-none, summed-more, summed-all   the sum of the first j counts. Each is below 65,536, so the sum is bounded
---   Entered, entered-none, entered-place, entered-more, entered-all   the entries of the first j tables are written, and the next body's place is known
+--   body-fits              the bytes of a table whose row count is a 16-bit number
+--   Entered, entered-none, entered-more, entered-all   the entries of the first j tables are written, and the next body's place is known
 --   bundle-written         n, the number of tables, the entries and the bodies, one behind the other, are the bundle at the buffer's front
 use mathlib.Core.Path.{_≡_, refl, sym, ap, _∙_}
 use mathlib.Core.Bool.{true}
 use mathlib.Core.List.{List, [], _∷_, _++_, append-nil, append-assoc}
 use Prim.Native.Nat.{ℕ, suc, _+_, _*_, _≤_, _<_}
-use native.Mathlib.Nat.{add-mul, zero-add}
+use native.Mathlib.Nat.{add-mul, zero-add, mul-le-mul, le-of-suc-le-suc}
 use native.Mathlib.Numerals.{add-one}
 use native.Mathlib.Omega.{arith}
 use borrow.Author.Tests.{le-ltb, lt-ltb}
@@ -63,6 +64,9 @@ summed-all {counts} {sum} {j} s h = omega (arith, s .rest, total-end counts j h)
 
 -- ---- the entries
 
+pub body-fits : {c n : ℕ} → c < 65536 → n ≤ 6 → c * n ≤ 65535 * 6
+body-fits h g = mul-le-mul (le-of-suc-le-suc h) g
+
 -- What is written is `done`; done and the entries that are left are all entries.
 pub record Entered (n : ℕ) (counts before : List ℕ) (place at j : ℕ) (buffer : List ℕ) : Type 0 where
   pub passed : j ≤ length counts
@@ -79,7 +83,7 @@ entered-none {before = before} =
 module _ {n : ℕ} {counts before : List ℕ} {place at j : ℕ} {buffer : List ℕ} (e : Entered n counts before place at j buffer) where
   module _ (c : ℕ) (h : j < length counts) (g : c ≡ getD counts j 0) where
     -- the place of the next body, and what follows it, end where the bundle does
-    pub entered-place : place + c * n + totalRows (drop (j + 1) counts) * n ≡ 2 + 4 * length counts + totalRows counts * n
+    entered-place : place + c * n + totalRows (drop (j + 1) counts) * n ≡ 2 + 4 * length counts + totalRows counts * n
     entered-place =
         let t : totalRows (drop j counts) * n ≡ (c + totalRows (drop (j + 1) counts)) * n = ap (λ (x : ℕ). x * n) (rw g (total-next counts j h)) in
         let a = add-mul c (totalRows (drop (j + 1) counts)) n in

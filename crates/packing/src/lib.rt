@@ -75,10 +75,12 @@ fn shape_refusal(n: usize, counts: &[u16], tables: &[u8]) -> u8
     if MOST_TABLES < counts.len() {
         return 9;
     }
-    if tables.len() != total_rows(counts) * n {
+    let demanded = total_rows(counts) * n;
+    let many = has_large_count(counts);
+    if tables.len() != demanded {
         return 2;
     }
-    if has_large_count(counts) {
+    if many {
         return 3;
     }
     0
@@ -92,17 +94,15 @@ fn write_refusal(n: usize, counts: &[u16], tables: &[u8], room: usize) -> u8
     if refused != 0 {
         return refused;
     }
-    if has_large_entry(tables) {
+    let large = has_large_entry(tables);
+    let size = 2 + 4 * counts.len() + tables.len();
+    if large {
         return 4;
     }
-    let size = 2 + 4 * counts.len() + tables.len();
     if room < size {
         return 8;
     }
-    if MOST_BYTES < size {
-        return 8;
-    }
-    0
+    if MOST_BYTES < size { 8 } else { 0 }
 }
 
 // Writes a 16-bit number, low byte first, and answers the place behind it.

@@ -114,8 +114,7 @@ exported-opens n counts tables buffer size after x j h number m count offset y =
     let o : Opens bundle n Ts = rw (x .size-is) (write-opens (x .answer) (x .promise) (sym (x .returned))) in
     let l : j < length Ts = omega (arith, length-given n counts tables) in
     let z : refusal (openChecks bundle j) ≡ 0 = sym (opens-table bundle j (o .passes) (omega (arith, o .count))) in
-    let f = numbers bundle j (y .answer) (y .promise) z in
-    (
+    let f = numbers bundle j (y .answer) (y .promise) z in (
       y .returned ∙ y .promise .number ∙ z,
       y .variables ∙ f .0 ∙ o .variables,
       y .count ∙ f .1 ∙ opens-count o j l ∙ ap length (given-at n counts tables j h) ∙ length-firstRows n (getD counts j 0) _,

@@ -255,7 +255,7 @@ pub fn write() -> bool {
     kept
 }
 
-/// The bundle is taken apart and written again.
+/// A bundle with n = 1, taken apart and written again.
 fn one_write(bundle: &[u8]) -> bool {
     let open = |table| baseline::bundle::open(bundle, table).expect("a sound bundle").1;
     let bodies = (0..16).map(open).collect::<Vec<&[u8]>>();

@@ -34,11 +34,15 @@ pub fn several(random: &mut Random, least: usize, most: usize) -> Vec<u8> {
     pack(n, &bodies)
 }
 
-/// The tables of such a bundle, and their n.
+/// The n and the tables of such a bundle; drawn again where they are too long for one, as complete tables seldom are.
 pub fn several_tables(random: &mut Random, least: usize, most: usize) -> (usize, Vec<Vec<u8>>) {
     let n = random.between(1, 6);
     let count = random.between(least, most);
-    (n, (0..count).map(|_| any_table(random, n).bytes).collect())
+    let bodies: Vec<Vec<u8>> = (0..count).map(|_| any_table(random, n).bytes).collect();
+    if 2 + 4 * count + bodies.iter().map(Vec::len).sum::<usize>() > MOST_BYTES {
+        return several_tables(random, least, most);
+    }
+    (n, bodies)
 }
 
 /// A short table, or a complete one, or one whose completion does not fit.
@@ -81,7 +85,7 @@ pub fn full(random: &mut Random) -> Vec<u8> {
     pack(n, &bodies)
 }
 
-/// The tables of such a bundle: 16 of them, and n such that the bodies fill what the header leaves.
+/// The n and the tables of such a bundle: 16 of them, and n such that the bodies fill what the header leaves.
 pub fn full_tables(random: &mut Random) -> (usize, Vec<Vec<u8>>) {
     let n = random.pick(&[1, 3]);
     let largest = random.pick(&[1, 6, 50]);

@@ -133,7 +133,7 @@ fn spoil_entry(random: &mut Random, parts: &mut Parts) {
 }
 
 /// Parts at a limit and past it, sound in all else: of n, of the tables, of their rows, of the bytes, of an entry; then
-/// parts whose rows number more than 16 bits hold, and parts with two faults.
+/// parts with more rows than 16 bits can count but without bytes, and parts with two faults.
 pub fn at_limits() -> Vec<Parts> {
     let sized = |n: usize, counts: &[u16]| Parts { n, counts: counts.to_vec(), tables: Vec::new() };
     let variables = [0, 1, 6, 7, 8].map(|n| sized(n, &[1, 2]).fitted());

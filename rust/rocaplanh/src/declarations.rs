@@ -1,7 +1,7 @@
 //! The archive's functions as C declares them; include/rocaplanh.h says what each does.
 //!
-//! A slice is its pointer and then its length. Each returns 0 for an answer, else the refusal's number; numbers behind
-//! pointers are always written, and are 0 after a refusal.
+//! A slice is its pointer and then its length in items. Each returns 0 for an answer, else the refusal's number;
+//! numbers behind pointers are always written, and are 0 after a refusal.
 //!
 //! # Safety
 //! For each function: pointers are valid for their lengths, those to numbers are valid, and what is written through one

@@ -4,7 +4,7 @@
 //! must promise of its pointers, Rust's slices promise by themselves, so that nothing is left to the caller here.
 //!
 //! - `marks`, `inside`, `complete`, `find`, `count`, `polynomial`, `steady`, `open`, `write`: the operations.
-//! - `completed`, `written`: `complete` and `write` into a vector of its own.
+//! - `completed`, `written`: `complete` and `write`, each into a vector of its own.
 //! - `Refusal`: why there is no answer. `declarations`: the C functions themselves.
 
 #![warn(missing_docs)]

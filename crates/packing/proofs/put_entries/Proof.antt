@@ -4,7 +4,7 @@ use native.Mathlib.Omega.{arith}
 use mathlib.Core.Path.{_≡_, refl, _∙_}
 use Prim.Native.Nat.{_-_}
 use lib.ListN.{length}
-use Rattle.packing.proofs.LoopLaws.{Entered, entered-none, entered-place, entered-more, entered-all}
+use Rattle.packing.proofs.LoopLaws.{Entered, body-fits, entered-none, entered-more, entered-all}
 use Rattle.packing.proofs.put_entries.Statement.{statement}
 use Rattle.packing.proofs.put_entries.Tie as tie
 
@@ -35,24 +35,21 @@ put16-requires c κs =
 put16-requires-2 : tie.Need-put16-requires-2 Inv-loop μ-loop
 put16-requires-2 c κs =
     let first = c .before .before .before in
-    let row = first .before .before in
-    let l = row .before .before .loop in
-    let e = entered-place (l .inv .0) (row .count-at .result) (omega arith) (row .count-at .ensures .0) in
-    (omega (arith, l .inv .1, l .inv .0 .here, first .put16 .ensures .ends, first .put16 .kept .0), omega arith)
+    let l = first .before .before .before .before .loop in
+    (omega (arith, l .inv .1, l .inv .0 .here, first .put16 .ensures .ends, first .put16 .kept .0), omega (arith, l .inv .0 .bound))
 
+-- a count below 65,536 times at most 6
 mul-place-2 : tie.Need-mul-place-2 Inv-loop μ-loop
 mul-place-2 c =
     let row = c .before .before .before .before .before .before .before .before in
-    let l = row .before .before .loop in
-    let e = entered-place (l .inv .0) (row .count-at .result) (omega arith) (row .count-at .ensures .0) in
+    let f = body-fits (row .count-at .ensures .1) (row .before .before .before .before .before .pre .six) in
     omega arith
 
 add-place-2 : tie.Need-add-place-2 Inv-loop μ-loop
 add-place-2 c =
     let row = c .before .before .before .before .before .before .before .before in
-    let l = row .before .before .loop in
-    let e = entered-place (l .inv .0) (row .count-at .result) (omega arith) (row .count-at .ensures .0) in
-    omega arith
+    let f = body-fits (row .count-at .ensures .1) (row .before .before .before .before .before .pre .six) in
+    omega (arith, row .before .before .loop .inv .0 .bound)
 
 add-j : tie.Need-add-j Inv-loop μ-loop
 add-j c = search needs

@@ -14,10 +14,12 @@ use Rattle.packing.proofs.shape_refusal.Tie as tie
 abbrev start : tie.Else4 → tie.Start
 start c = c .before .before .before .before .before .before
 
--- what is known behind 2
-whole : (c : tie.Else5) → length (start (c .before .before) .args .tables .now)
-    ≡ totalRows (start (c .before .before) .args .counts .now) * start (c .before .before) .args .n
-whole c = rw (← c .before .total-rows .ensures .0) (c .if5 .left)
+-- the two results that the checks 2 and 3 look at
+abbrev sum : tie.After-has-large-count → tie.After-total-rows
+sum c = c .before
+
+abbrev begin : tie.After-has-large-count → tie.Start
+begin c = start (sum c .before)
 
 returns : tie.Need-returns
 returns c = let a = c .before .before .before .args in shape-one (a .n) (a .counts .now) (a .tables .now) (λ h. omega (arith, h .0))
@@ -38,31 +40,37 @@ returns-4 c =
 total-rows-requires : tie.Need-total-rows-requires
 total-rows-requires c κs = search needs
 
-mul-if5 : tie.Need-mul-if5
-mul-if5 c =
+mul-demanded : tie.Need-mul-demanded
+mul-demanded c =
     let f = demanded-fits (c .total-rows .result) (start (c .before) .args .n) (c .total-rows .ensures .1) (omega arith) in
     omega arith
-
-returns-5 : tie.Need-returns-5
-returns-5 c =
-    let a = start (c .before .before) .args in
-    shape-two (a .n) (a .counts .now) (a .tables .now) (omega arith) (omega arith) (omega arith) (omega arith)
-    (rw (← c .before .total-rows .ensures .0) (c .if5 .taken))
 
 has-large-count-requires : tie.Need-has-large-count-requires
 has-large-count-requires c κs = search needs
 
+returns-5 : tie.Need-returns-5
+returns-5 c =
+    let a = begin (c .before) .args in
+    shape-two (a .n) (a .counts .now) (a .tables .now) (omega arith) (omega arith) (omega arith) (omega arith)
+    (rw (← sum (c .before) .total-rows .ensures .0) (c .if5 .taken))
+
+-- what is known behind 2
+whole : (c : tie.Else5) → length (begin (c .before) .args .tables .now) ≡ totalRows (begin (c .before) .args .counts .now) * begin (c .before) .args .n
+whole c = rw (← sum (c .before) .total-rows .ensures .0) (c .if5 .left)
+
 returns-6 : tie.Need-returns-6
 returns-6 c =
-    let a = start (c .before .before .before .before) .args in
-    shape-three (a .n) (a .counts .now) (a .tables .now) (omega arith) (omega arith) (omega arith) (omega arith) (whole (c .before .before))
-    (sym (c .before .has-large-count .ensures) ∙ c .if6 .taken)
+    let o = c .before in
+    let a = begin (o .before) .args in
+    shape-three (a .n) (a .counts .now) (a .tables .now) (omega arith) (omega arith) (omega arith) (omega arith) (whole o)
+    (sym (o .before .has-large-count .ensures) ∙ c .if6 .taken)
 
 returns-7 : tie.Need-returns-7
 returns-7 c =
-    let a = start (c .before .before .before .before) .args in
-    shape-passes (a .n) (a .counts .now) (a .tables .now) (omega arith) (omega arith) (omega arith) (omega arith) (whole (c .before .before))
-    (sym (c .before .has-large-count .ensures) ∙ c .if6 .left)
+    let o = c .before in
+    let a = begin (o .before) .args in
+    shape-passes (a .n) (a .counts .now) (a .tables .now) (omega arith) (omega arith) (omega arith) (omega arith) (whole o)
+    (sym (o .before .has-large-count .ensures) ∙ c .if6 .left)
 
 pub shape-refusal-spec : {M : Type 1} → statement M
 shape-refusal-spec =
@@ -73,8 +81,8 @@ shape-refusal-spec =
     returns-3
     returns-4
     total-rows-requires
-    mul-if5
-    returns-5
+    mul-demanded
     has-large-count-requires
+    returns-5
     returns-6
     returns-7)

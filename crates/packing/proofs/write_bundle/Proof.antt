@@ -18,6 +18,19 @@ use Rattle.packing.proofs.write_bundle.Tie as tie
 abbrev start : tie.Else1 → tie.Start
 start c = c .before .before .before .before .before
 
+-- what was done before: the entries, the number of tables, n, and the checks
+abbrev entered : tie.After-copy-from → tie.After-put-entries
+entered c = c .before .before .before .before
+
+abbrev counted : tie.After-put-entries → tie.After-put-byte2
+counted c = c .before .before .before .before
+
+abbrev begun : tie.After-put-byte2 → tie.After-put-byte
+begun c = c .before .before .before .before
+
+abbrev checked : tie.After-put-byte → tie.Else1
+checked c = c .before .before
+
 -- the checks let the inputs pass
 passed : (c : tie.Else1) → Writable (start c .args .n) (start c .args .counts .now) (start c .args .tables .now) (length (start c .args .buffer .now))
 passed c = let a = start c .args in
@@ -48,49 +61,36 @@ cast-put-byte-2 c = let o = c .before .before .before .before .before in record 
 put-byte-requires-2 : tie.Need-put-byte-requires-2
 put-byte-requires-2 c κs =
     let first = c .before .before .before in
-    let o = first .before .before in
+    let o = checked first in
     omega (arith, size o, passed o .fits, first .put-byte .ensures .ends, first .put-byte .kept .0)
 
 put-entries-requires : tie.Need-put-entries-requires
 put-entries-requires c κs =
     let second = c .before .before .before in
-    let first = second .before .before .before .before in
-    let o = first .before .before in
+    let o = checked (begun second) in
     let w = passed o in
     record {
       six = w .shape .six;
-      room = omega (arith, size o, w .fits, first .put-byte .kept .0, second .put-byte2 .kept .0);
+      room = omega (arith, size o, w .fits, begun second .put-byte .kept .0, second .put-byte2 .kept .0);
       short = omega (arith, size o, w .short, w .shape .whole);
     }
+
+-- the header ends where the first body begins
+header-ends : (c : tie.After-put-entries) → c .put-entries .result ≡ 2 + 4 * length (start (checked (begun (counted c))) .args .counts .now)
+header-ends c =
+    let a = start (checked (begun (counted c))) .args in
+    omega (arith, c .put-entries .ensures .ends, length-entries (a .n) (2 + 4 * length (a .counts .now)) (a .counts .now))
 
 copy-from-requires : tie.Need-copy-from-requires
 copy-from-requires c κs =
     let third = c .before .before .before in
-    let second = third .before .before .before .before in
-    let first = second .before .before .before .before in
-    let o = first .before .before in
-    let a = start o .args in
-    let l = length-entries (a .n) (2 + 4 * length (a .counts .now)) (a .counts .now) in (
-      omega (
-        arith,
-        size o,
-        passed o .fits,
-        third .put-entries .ensures .ends,
-        first .put-byte .kept .0,
-        second .put-byte2 .kept .0,
-        third .put-entries .kept .1 .1 .0,
-      ),
-      omega arith,
-    )
+    let second = counted third in
+    let o = checked (begun second) in
+    let kept = third .put-entries .kept .1 .1 .0 ∙ second .put-byte2 .kept .0 ∙ begun second .put-byte .kept .0 in
+    (omega (arith, size o, passed o .fits, header-ends third, kept), omega arith)
 
 add-t8 : tie.Need-add-t8
-add-t8 c =
-    let fourth = c .before .before in
-    let third = fourth .before .before .before .before in
-    let o = third .before .before .before .before .before .before .before .before .before .before in
-    let a = start o .args in
-    let l = length-entries (a .n) (2 + 4 * length (a .counts .now)) (a .counts .now) in
-    omega (arith, size o, passed o .short, third .put-entries .ensures .ends)
+add-t8 c = let third = entered (c .before .before) in let o = checked (begun (counted third)) in omega (arith, size o, passed o .short, header-ends third)
 
 same-length : tie.Need-same-length
 same-length c = search needs
@@ -98,10 +98,10 @@ same-length c = search needs
 returns-2 : tie.Need-returns-2
 returns-2 c =
     let fourth = c .before .before in
-    let third = fourth .before .before .before .before in
-    let second = third .before .before .before .before in
-    let first = second .before .before .before .before in
-    let o = first .before .before in
+    let third = entered fourth in
+    let second = counted third in
+    let first = begun second in
+    let o = checked first in
     let a = start o .args in
     let w = bundle-written (a .n) (a .counts .now) (a .tables .now) (a .buffer .now) (passed o .shape .whole) (first .put-byte .ensures)
     (second .put-byte2 .ensures) (third .put-entries .ensures) (pasted-wrote (fourth .copy-from .ensures)) in

@@ -16,23 +16,19 @@ use Rattle.packing.proofs.CheckLaws.{Shaped, shaped, shaped-size, write
 use Rattle.packing.proofs.write_refusal.Statement.{statement}
 use Rattle.packing.proofs.write_refusal.Tie as tie
 
--- where the function begins, from behind the first checks and from behind 4
+-- where the function begins, from behind the first checks and from behind the look at the entries
 abbrev start : tie.Else1 → tie.Start
 start c = c .before .before .before .before
 
-abbrev start-2 : tie.Else2 → tie.Start
-start-2 c = start (c .before .before)
+abbrev begin : tie.After-has-large-entry → tie.Start
+begin c = start (c .before)
 
 -- the first checks pass
 passed : (c : tie.Else1) → refusal (shapeChecks (start c .args .n) (start c .args .counts .now) (start c .args .tables .now)) ≡ 0
 passed c = sym (c .before .shape-refusal .ensures) ∙ c .if1 .left
 
--- and so does 4
-small : (c : tie.Else2) → any (λ e. ltb 50 e) (start-2 c .args .tables .now) ≡ false
-small c = sym (c .before .has-large-entry .ensures) ∙ c .if2 .left
-
-shape : (c : tie.Else2) → Shaped (start-2 c .args .n) (start-2 c .args .counts .now) (start-2 c .args .tables .now)
-shape c = let a = start-2 c .args in shaped (a .n) (a .counts .now) (a .tables .now) (passed (c .before .before))
+shape : (c : tie.Else1) → Shaped (start c .args .n) (start c .args .counts .now) (start c .args .tables .now)
+shape c = let a = start c .args in shaped (a .n) (a .counts .now) (a .tables .now) (passed c)
 
 shape-refusal-requires : tie.Need-shape-refusal-requires
 shape-refusal-requires c κs = search needs
@@ -45,12 +41,6 @@ returns c =
 has-large-entry-requires : tie.Need-has-large-entry-requires
 has-large-entry-requires c κs = search needs
 
-returns-2 : tie.Need-returns-2
-returns-2 c =
-    let o = c .before .before in
-    let a = start o .args in
-    write-four (a .n) (a .counts .now) (a .tables .now) (a .room) (passed o) (sym (c .before .has-large-entry .ensures) ∙ c .if2 .taken)
-
 mul-size : tie.Need-mul-size
 mul-size c = search needs
 
@@ -58,24 +48,34 @@ add-size : tie.Need-add-size
 add-size c = search needs
 
 add-size-2 : tie.Need-add-size-2
-add-size-2 c = omega (arith, shape c .sixteen, shaped-size (shape c))
+add-size-2 c = omega (arith, shape (c .before) .sixteen, shaped-size (shape (c .before)))
+
+returns-2 : tie.Need-returns-2
+returns-2 c =
+    let o = c .before in
+    let a = begin o .args in
+    write-four (a .n) (a .counts .now) (a .tables .now) (a .room) (passed (o .before)) (sym (o .has-large-entry .ensures) ∙ c .if2 .taken)
+
+-- 4 passes
+small : (c : tie.Else2) → any (λ e. ltb 50 e) (begin (c .before) .args .tables .now) ≡ false
+small c = sym (c .before .has-large-entry .ensures) ∙ c .if2 .left
 
 returns-3 : tie.Need-returns-3
 returns-3 c =
     let o = c .before in
-    let a = start-2 o .args in
+    let a = begin (o .before) .args in
     write-eight (a .n) (a .counts .now) (a .tables .now) (a .room) (passed (o .before .before)) (small o) (inl (c .if3 .taken))
 
 returns-4 : tie.Need-returns-4
 returns-4 c =
     let o = c .before .before in
-    let a = start-2 o .args in
+    let a = begin (o .before) .args in
     write-eight (a .n) (a .counts .now) (a .tables .now) (a .room) (passed (o .before .before)) (small o) (inr (c .if4 .taken))
 
 returns-5 : tie.Need-returns-5
 returns-5 c =
     let o = c .before .before in
-    let a = start-2 o .args in
+    let a = begin (o .before) .args in
     write-passes (a .n) (a .counts .now) (a .tables .now) (a .room) (passed (o .before .before)) (small o) (c .before .if3 .left) (c .if4 .left)
 
 pub write-refusal-spec : {M : Type 1} → statement M
@@ -85,10 +85,10 @@ write-refusal-spec =
     shape-refusal-requires
     returns
     has-large-entry-requires
-    returns-2
     mul-size
     add-size
     add-size-2
+    returns-2
     returns-3
     returns-4
     returns-5)

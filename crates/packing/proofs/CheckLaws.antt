@@ -1,11 +1,12 @@
 -- Laws of the writer's checks.
 --
---   Shaped, shaped, shaped-accepts   what is known of inputs that pass 1, 9, 2 and 3, and that this is enough to pass them
+--   Shaped, shaped, shaped-accepts, accepts-shape   what is known of inputs that pass 1, 9, 2 and 3, and that this is enough to pass them
+--   demanded-fits          the bytes that the sum of the counts demands, before any count is known to be small
 --   shaped-size            their bytes are at most 16 times 4,096 rows of 6
 --   shape-one, shape-nine, shape-two, shape-three, shape-passes   the first of these checks that refuses, and that none does
 --   write-four, write-eight, write-passes   what 4 and 8 decide behind them. The size that the code adds up is the bundle's length
 --   Writable, writable, writable-passes   what is known of inputs that the writer accepts, and that this is enough
-use mathlib.Core.Path.{_≡_, refl, sym, ap, _∙_}
+use mathlib.Core.Path.{_≡_, refl, sym, _∙_}
 use mathlib.Core.Bool.{true, false}
 use mathlib.Core.List.{List, [], _∷_, List·Memᴰ, List·Memᴰ·head, List·Memᴰ·tail}
 use mathlib.Core.Logic.{inl, inr, ⊎-elim}

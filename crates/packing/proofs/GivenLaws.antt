@@ -75,7 +75,8 @@ unfolding givenTables countsOf bodiesOf
 given-again n [] size = refl
 given-again n (G ∷ Ts) size =
     let s : OfSize n G = size G (List·Memᴰ·head refl) in
-    rw (firstRows-flat n G (bodiesOf Ts) s, drop-at (flat G) (bodiesOf Ts) (length G * n) (length-flat n G s), given-again n Ts (λ F m. size F (List·Memᴰ·tail m)))
+    let rest = given-again n Ts (λ F m. size F (List·Memᴰ·tail m)) in
+    rw (firstRows-flat n G (bodiesOf Ts) s, drop-at (flat G) (bodiesOf Ts) (length G * n) (length-flat n G s), rest)
 
 pub total-bodies : (n : ℕ) (Ts : List Table) → ((G : Table) → List·Memᴰ G Ts → OfSize n G) → length (bodiesOf Ts) ≡ totalRows (countsOf Ts) * n
 unfolding totalRows countsOf bodiesOf

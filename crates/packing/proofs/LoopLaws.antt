@@ -8,21 +8,21 @@
 use mathlib.Core.Path.{_≡_, refl, sym, ap, _∙_}
 use mathlib.Core.Bool.{true}
 use mathlib.Core.List.{List, [], _∷_, _++_, append-nil, append-assoc}
-use Prim.Native.Nat.{ℕ, suc, _+_, _*_, _≤_, _<_}
+use Prim.Native.Nat.{ℕ, _+_, _*_, _≤_, _<_}
 use native.Mathlib.Nat.{add-mul, zero-add, mul-le-mul, le-of-suc-le-suc}
 use native.Mathlib.Numerals.{add-one}
 use native.Mathlib.Omega.{arith}
 use borrow.Author.Tests.{le-ltb, lt-ltb}
 use lib.Dec.{ltb}
-use lib.ListN.{length, getD, take, drop, drop-of-length-le}
+use lib.ListN.{length, getD, drop, drop-of-length-le}
 use lib.Seq.{drop-cons}
 use Rattle.checks.specs.Tests.{any}
 use Rattle.writing.specs.Written.{written, Wrote}
 use Rattle.writing.proofs.WrittenLaws.{wrote-nothing, wrote-then, wrote-as}
 use Rattle.bundle.specs.Format.{low, high, entriesOf}
 use Rattle.packing.specs.GivenTables.{totalRows, givenBundle}
-use Rattle.packing.specs.Operation.{EntriesFit, writtenBuffer}
-use Rattle.packing.proofs.GivenLaws.{length-entries, bundle-bytes}
+use Rattle.packing.specs.Operation.{writtenBuffer}
+use Rattle.packing.proofs.GivenLaws.{bundle-bytes}
 
 -- ---- a large count
 

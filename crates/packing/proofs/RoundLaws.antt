@@ -97,7 +97,8 @@ module _ (b : List ℕ) (n : ℕ) (v : variablesOf b ≡ n) (some : 0 < n) (rest
       let a = length-append (flat G) (bodiesOf Ts) in
       let first : TableLaid b j = first-laid j p G Ts e d here s (few G (List·Memᴰ·head refl)) (omega arith) in
       let r : Read b (suc j) Ts =
-      read-from Ts (suc j) (p + length G * n) (next-entries j p G Ts e d here s) (next-bodies j p G Ts e d here s) (next-place j p G Ts e d here s) (omega arith)
+      read-from Ts (suc j) (p + length G * n)
+      (next-entries j p G Ts e d here s) (next-bodies j p G Ts e d here s) (next-place j p G Ts e d here s) (omega arith)
       (λ F m. size F (List·Memᴰ·tail m)) (λ F m. few F (List·Memᴰ·tail m)) in
       let z : j + suc (length Ts) ≡ suc j + length Ts = omega arith in
       record {

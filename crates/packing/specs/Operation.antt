@@ -4,7 +4,8 @@
 --   WrongLength n counts tables    2: the length of the tables is not n times the sum of the counts
 --   CountAbove4096 counts          3: a count above 4,096
 --   NoRoom size room               8: a bundle of that size is longer than the room, or than 65,535 bytes
---   shapeChecks n counts tables    the checks 1, 9, 2, 3, in order
+--   shapeChecks n counts tables    the checks 1, 9, 2, 3, in order: of n, the counts and the tables' length
+--   contentChecks n counts tables room   the checks 4 and 8: of the entries and the bundle's length
 --   writeChecks n counts tables room   the checks in order: 1, 9, 2, 3, 4, 8. The room is the length of the lent buffer
 --   writeNumber, writeLength       the paper's number of an answer, 0 for none, and the bundle's length, 0 beside a refusal
 --   writeAnswer m k                the answer of that number and length: the length, or the refusal

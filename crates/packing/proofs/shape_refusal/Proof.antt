@@ -1,4 +1,4 @@
--- `shape_refusal` meets its contract: each return gives the first of the checks 1, 9, 2 and 3 that refuses; the tests before it have ruled out the earlier ones.
+-- `shape_refusal` meets its contract: each return gives the first of the checks 1, 9, 2 and 3 that refuses; the tests before it ruled out the earlier ones.
 use native.Mathlib.Omega.{arith}
 use mathlib.Core.Path.{_≡_, sym, _∙_}
 use Prim.Native.Nat.{_*_}

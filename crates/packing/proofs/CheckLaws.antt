@@ -49,7 +49,7 @@ shaped-size {n} {counts} s =
     omega (arith, s .whole)
 
 -- at most 1,048,560 rows of at most 6 bytes
-pub demanded-fits : (rows n : ℕ) → rows ≤ 16 * 65535 → n ≤ 6 → rows * n ≤ 6291360
+pub demanded-fits : (rows n : ℕ) → rows ≤ 16 * 65535 → n ≤ 6 → rows * n ≤ 16 * 65535 * 6
 demanded-fits rows n h g = mul-le-mul h g
 
 module _ (n : ℕ) (counts tables : List ℕ) where

@@ -3,8 +3,8 @@
  * Link with the archive libinterface.a (`rt staticlib interface` writes it to target/staticlib).
  *
  * A monomial in n variables is n bytes, one exponent each, first variable first. A table is rows of n bytes end to end:
- * n is 1 to 6, a table has 0 to 4096 rows, and an entry is 0 to 50. A query is one monomial whose bytes may be 0 to 255.
- * Rows count from 0.
+ * n is 1 to 6, a table has 0 to 4096 rows, no two of them equal, and an entry is 0 to 50. A query is one monomial whose
+ * bytes may be 0 to 255. Rows count from 0.
  *
  * Who owns what. All memory is the caller's: the library keeps no pointer, allocates nothing and has no state, so calls
  * may run at the same time on different memory. `const` memory is only read. Each length counts elements: bytes, or
@@ -17,8 +17,8 @@
  * whose length is 0 may be NULL or any other value: nothing is read or written through it. A pointer to a number must not
  * be NULL. On these points the library trusts its caller.
  *
- * What is returned. Each function returns 0 for an answer, or else the number of its refusal: the lowest that applies,
- * the conditions of a bundle being tried in the order given at rocaplanh_open and rocaplanh_write.
+ * What is returned. Each function returns 0 for an answer, or else the number of its refusal: the first that applies,
+ * in the order of the function's comment.
  */
 #ifndef ROCAPLANH_H
 #define ROCAPLANH_H
@@ -55,25 +55,26 @@ enum rocaplanh_refusal {
                                       a bundle longer than the buffer, or than 65535 bytes (write) */
     ROCAPLANH_BUNDLE = 9,          /* bundle below 2 or above 65535 bytes, not 1 to 16 tables, or shorter than its header */
     ROCAPLANH_OFFSET = 10,         /* an offset in a bundle is not the place where that table must begin */
-    ROCAPLANH_BODY = 11            /* a table's body passes the bundle's end, or bytes remain after the last */
+    ROCAPLANH_BODY = 11,           /* a table's body passes the bundle's end, or bytes remain after the last */
+    ROCAPLANH_EQUAL_ROWS = 12      /* two equal rows in one table (marks, inside, complete, open, write) */
 };
 
 /* Writes the marks of each row to the front of `marks`, one byte a row in the order of the rows. Variable i is marked when
  * the row's exponent there is the largest among the rows that equal it in variables 1 to i - 1; variable 1 adds 1 to the
- * byte, variable 2 adds 2, then 4, 8, 16, 32. Rows may come in any order and more than once.
- * Refuses by 1, 2, 3, 4, and 8 when `marks` has fewer bytes than the table has rows. */
+ * byte, variable 2 adds 2, then 4, 8, 16, 32. Rows may come in any order.
+ * Refuses by 1, 2, 3, 4, 12, and 8 when `marks` has fewer bytes than the table has rows. */
 uint32_t rocaplanh_marks(size_t n, const uint8_t *table, size_t table_length, uint8_t *marks, size_t marks_length);
 
 /* Sets `*row` to the first row that divides the query (no exponent of the row exceeds the query's), ROCAPLANH_NONE if
  * there is none. Rows may come in any order.
- * Refuses by 1, 2, 3, 4, 5. */
+ * Refuses by 1, 2, 3, 4, 12, 5. */
 uint32_t rocaplanh_inside(size_t n, const uint8_t *table, size_t table_length, const uint8_t *query, size_t query_length,
                           uint32_t *row);
 
 /* Writes the completed table, the smallest Janet-complete table with the same ideal, to the front of `rows` in ascending
  * order (the first variable decides, then the next), and sets `*count` to its number of rows. Given rows may come in any
- * order and more than once. The room is rows_length / n rows, rounded down, and never more than 4096.
- * Refuses by 1, 2, 3, 4, and 8 when the completed table has more rows than the room. */
+ * order. The room is rows_length / n rows, rounded down, and never more than 4096.
+ * Refuses by 1, 2, 3, 4, 12, and 8 when the completed table has more rows than the room. */
 uint32_t rocaplanh_complete(size_t n, const uint8_t *table, size_t table_length, uint8_t *rows, size_t rows_length,
                             uint32_t *count);
 
@@ -103,7 +104,8 @@ uint32_t rocaplanh_steady(size_t n, const uint8_t *table, size_t table_length, u
  * A bundle is n, the number of tables (a byte each); for each table its row count and the offset of its body from the
  * bundle's start (16 bits each, low byte first); then the bodies in order without gaps.
  * Refuses by 9; then 1; then for each table in order 3, 10, 11; then 11 for bytes that remain; then 4 for an entry of any
- * table; then 5. A fault in any table refuses the whole bundle, whichever table is asked for. */
+ * table; then 12 for two equal rows of any one table; then 5. A fault in any table refuses the whole bundle, whichever
+ * table is asked for. */
 uint32_t rocaplanh_open(const uint8_t *bundle, size_t bundle_length, size_t table, uint32_t *n, uint32_t *rows,
                         uint32_t *offset);
 
@@ -112,7 +114,8 @@ uint32_t rocaplanh_open(const uint8_t *bundle, size_t bundle_length, size_t tabl
  * written, rocaplanh_open opens: table j is the j-th table given. A bundle that it opens, taken apart and written again,
  * is the same bytes. A buffer of ROCAPLANH_MOST_BUNDLE_BYTES holds every bundle.
  * Refuses by 1; then 9 when counts_length is not 1 to 16; then 2 when tables_length is not n times the sum of the counts;
- * then 3 when a count is above 4096; then 4; then 8 when the bundle is longer than `buffer`, or than 65535 bytes. */
+ * then 3 when a count is above 4096; then 4; then 12 for two equal rows of one table; then 8 when the bundle is longer
+ * than `buffer`, or than 65535 bytes. */
 uint32_t rocaplanh_write(size_t n, const uint16_t *counts, size_t counts_length, const uint8_t *tables, size_t tables_length,
                          uint8_t *buffer, size_t buffer_length, uint32_t *length);
 

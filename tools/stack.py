@@ -27,11 +27,13 @@ def pack(n, tables):
 
 
 def full(n, largest):
-    """16 tables of random rows, as many as 65,535 bytes hold."""
+    """16 tables of random rows, no two of a table equal: as many as 65,535 bytes hold, or as there are."""
     numbers = random.Random(n)
+    base = largest + 1
     rows = (65535 - 2 - 4 * 16) // n
-    sizes = [rows // 16 + (table < rows % 16) for table in range(16)]
-    return pack(n, [[[numbers.randint(0, largest) for _ in range(n)] for _ in range(size)] for size in sizes])
+    sizes = [min(rows // 16 + (table < rows % 16), base**n) for table in range(16)]
+    drawn = [numbers.sample(range(base**n), size) for size in sizes]
+    return pack(n, [[[row // base**place % base for place in range(n)] for row in table] for table in drawn])
 
 
 def powers(exponents):

@@ -150,6 +150,21 @@ def entry_place(_, tables):
     return next((line, shortened(word)) for line, word in entries if exponent(word) > rocaplanh.LARGEST_ENTRY)
 
 
+def equal_place(_, tables):
+    """12: the first row that stands in its table already."""
+    return next((row.line, f'as on line {line}') for row, line in repeated(tables))
+
+
+def repeated(tables):
+    """Each row that stands in its table already, and the line that has it first. Exponents are compared as numbers."""
+    for table in tables:
+        first_lines = {}
+        for row in table:
+            line = first_lines.setdefault(tuple(map(exponent, row.words)), row.line)
+            if line != row.line:
+                yield row, line
+
+
 def room_place(n, tables):
     """8: the first row that passes the longest bundle. Before the rows stand two bytes, and four for each table."""
     rows = [row for row in rows_of(tables) if not has_dashes(row)]
@@ -164,6 +179,7 @@ PLACES = {
     2: length_place,
     3: rows_place,
     4: entry_place,
+    12: equal_place,
     8: room_place,
 }
 
@@ -196,22 +212,30 @@ def counted(number, thing):
 
 def found_in(bundle, number):
     """The table to which a refusal of a bundle belongs, or what remains behind the last; nothing for other refusals."""
-    if number not in (3, 4, 10, 11):
+    if number not in (3, 4, 10, 11, 12):
         return ''
-    n, place = bundle[0], 2 + 4 * bundle[1]
+    place = 2 + 4 * bundle[1]
     for table in range(bundle[1]):
-        rows, offset = struct.unpack_from('<HH', bundle, 2 + 4 * table)
-        end = place + n * rows
-        at_fault = {
-            3: rows > rocaplanh.MOST_ROWS,
-            10: offset != place,
-            11: end > len(bundle),
-            4: max(bundle[place:end], default=0) > rocaplanh.LARGEST_ENTRY,
-        }
+        end, at_fault = table_faults(bundle, table, place)
         if at_fault[number]:
             return f': table {table}'
         place = end
     return f': {counted(len(bundle) - place, "byte")} more'
+
+
+def table_faults(bundle, table, place):
+    """Where a table's body ends that must begin at a place; and for each number, whether it refuses this table."""
+    n = bundle[0]
+    rows, offset = struct.unpack_from('<HH', bundle, 2 + 4 * table)
+    end = place + n * rows
+    body = bundle[place:end]
+    return end, {
+        3: rows > rocaplanh.MOST_ROWS,
+        10: offset != place,
+        11: end > len(bundle),
+        4: max(body, default=0) > rocaplanh.LARGEST_ENTRY,
+        12: len({body[start:start + n] for start in range(0, len(body), n)}) < rows,
+    }
 
 
 # The library and the streams.

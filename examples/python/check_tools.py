@@ -4,6 +4,7 @@ Bytes, lines and messages are worked out by hand. examples/run starts this: ROCA
 and ROCAPLANH_ARCHIVE the archive's folder.
 """
 
+import itertools
 import os
 import random
 import shutil
@@ -15,6 +16,7 @@ import tempfile
 ROOT = os.path.dirname(os.path.dirname(os.path.dirname(os.path.abspath(__file__))))
 sys.path.insert(0, os.path.join(ROOT, "tools"))
 import tabletext  # noqa: E402
+
 
 def packed(n, tables):
     """The bundle of some tables, worked out apart from the library."""
@@ -30,10 +32,15 @@ LENGTH = "a row's length is not the number of variables:"
 TABLES = "the number of tables is not 1 to 16:"
 ROWS = "a table has more than 4,096 rows: the 4,097th row stands here"
 TOO_LONG = "the bundle is longer than 65,535 bytes: this row no longer fits"
+EQUAL = "a table has two equal rows:"
 DASHES = "dashes are a table without rows, and blank lines part it from others"
 
+# 4,096 rows of three exponents, and 4,000 rows of six as text, which begin with six zeros.
+TRIPLES = list(itertools.product(range(35, 51), repeat=3))
+SIXES = "".join("%d %d %d %d %d %d\n" % row for row in itertools.islice(itertools.product(range(5), repeat=6), 4000))
+
 # Three tables of 4,000 rows in six variables, of which 10,920 rows fit: the third begins on line 8,003.
-LONG = "\n".join(["0 0 0 0 0 0\n" * 4000] * 3)
+LONG = "\n".join([SIXES] * 3)
 
 # Texts that are refused, and how. Where several faults stand in one text, the first in the library's order is told.
 REFUSED_TEXTS = [
@@ -56,6 +63,17 @@ REFUSED_TEXTS = [
     ("050\n00000051\n", "line 2: an entry is above 50: 00000051 (refusal 4)"),
     ("1" * 5000 + "\n", "line 1: an entry is above 50: 11111111111111111111.. (refusal 4)"),
     (LONG + "0 0 0 0 0 51\n", "line 12003: an entry is above 50: 51 (refusal 4)"),
+    ("1 0\n1 0\n", f"line 2: {EQUAL} as on line 1 (refusal 12)"),
+    ("# a remark\n2 1\n0 2\n# another\n2 1  # again\n", f"line 5: {EQUAL} as on line 2 (refusal 12)"),
+    ("3 2\n1 1\n03 002\n", f"line 3: {EQUAL} as on line 1 (refusal 12)"),
+    ("1\n2\n3\n2\n1\n2\n", f"line 4: {EQUAL} as on line 2 (refusal 12)"),
+    ("4\n4\n4\n\n5\n5\n", f"line 2: {EQUAL} as on line 1 (refusal 12)"),
+    ("1 2\n\n- -\n\n1 2\n2 1\n1 2\n\n1 2\n", f"line 7: {EQUAL} as on line 5 (refusal 12)"),
+    ("1 2\n\n" * 15 + "1 2\n2 2\n2 2\n", f"line 33: {EQUAL} as on line 32 (refusal 12)"),
+    (SIXES + "0 0 0 0 0 0\n", f"line 4001: {EQUAL} as on line 1 (refusal 12)"),
+    (LONG + "0 0 0 0 0 0\n", f"line 12003: {EQUAL} as on line 8003 (refusal 12)"),
+    ("1 0\n1 0\n\n0 51\n", "line 4: an entry is above 50: 51 (refusal 4)"),
+    ("51\n51\n", "line 1: an entry is above 50: 51 (refusal 4)"),
     (LONG, f"line 10923: {TOO_LONG} (refusal 8)"),
     ("- - - - - -\n\n" + LONG, f"line 10924: {TOO_LONG} (refusal 8)"),
 ]
@@ -82,8 +100,8 @@ FRAME = "the bundle's size, its number of tables or its header is wrong"
 OFFSET = "an offset is not the place where that table must begin"
 BODY = "a body passes the bundle's end, or bytes remain after the last"
 
-# The longest bundle: 66 bytes of a header, and 65,469 rows of one byte.
-FULL = packed(1, [[(0,)] * 4096] * 15 + [[(50,)] * 4029])
+# The longest bundle: 66 bytes of a header, and 21,823 rows of three bytes.
+FULL = packed(3, [TRIPLES] * 5 + [[]] * 10 + [TRIPLES[:1343]])
 
 # Bundles that are refused, and how.
 REFUSED_BUNDLES = [
@@ -96,6 +114,10 @@ REFUSED_BUNDLES = [
     ([2, 1, 1, 0, 6, 0, 0, 0, 0], f"{BODY}: 1 byte more (refusal 11)"),
     ([2, 1, 1, 0, 6, 0, 0, 0, 0, 51], f"{BODY}: 2 bytes more (refusal 11)"),
     ([2, 2, 1, 0, 10, 0, 1, 0, 12, 0, 0, 50, 0, 51], "an entry is above 50: table 1 (refusal 4)"),
+    ([2, 2, 2, 0, 10, 0, 1, 0, 14, 0, 1, 0, 1, 0, 0, 51], "an entry is above 50: table 1 (refusal 4)"),
+    ([2, 1, 2, 0, 6, 0, 1, 0, 1, 0], f"{EQUAL} table 0 (refusal 12)"),
+    ([1, 3, 1, 0, 14, 0, 3, 0, 15, 0, 2, 0, 18, 0, 5, 6, 5, 6, 7, 7], f"{EQUAL} table 1 (refusal 12)"),
+    (FULL[:-3] + FULL[-6:-3], f"{EQUAL} table 15 (refusal 12)"),
 ]
 
 
@@ -133,6 +155,7 @@ def check_outputs():
     expect(run("pack", b"-\n\n50\n"), 0, bytes([1, 2, 0, 0, 10, 0, 1, 0, 10, 0, 50]), "")
     text = b"# table 0: 0 rows\n-\n\n# table 1: 1 row\n50\n"
     expect(run("unpack", bytes([1, 2, 0, 0, 10, 0, 1, 0, 10, 0, 50])), 0, text, "")
+    expect(run("pack", b"1 0\n\n1 0\n"), 0, bytes([2, 2, 1, 0, 10, 0, 1, 0, 12, 0, 1, 0, 1, 0]), "")
 
 
 def check_refusals():
@@ -198,18 +221,71 @@ def random_text(numbers, n, tables):
     return some("", "\n", "#\n\n") + some("\n", "\n\n \t\n", "\n# - -\n").join(texts) + some("", "\n", "# end")
 
 
+def random_tables(numbers, n):
+    """Some tables, none of which has two equal rows."""
+    sizes = [numbers.choice((0, 1, numbers.randint(0, 20))) for _ in range(numbers.randint(1, 16))]
+    rows = [[tuple(numbers.randint(0, 50) for _ in range(n)) for _ in range(size)] for size in sizes]
+    return [list(dict.fromkeys(table)) for table in rows]
+
+
 def check_random_texts():
     """A random text gives its tables' bytes; unpacked and packed again, they and the longest bundle are the same."""
     numbers = random.Random(1)
     for _ in range(400):
         n = numbers.randint(1, 6)
-        sizes = [numbers.choice((0, 1, numbers.randint(0, 20))) for _ in range(numbers.randint(1, 16))]
-        tables = [[tuple(numbers.randint(0, 50) for _ in range(n)) for _ in range(size)] for size in sizes]
+        tables = random_tables(numbers, n)
         text = random_text(numbers, n, tables)
         bundle = packed(n, tables)
         assert tabletext.pack(text.encode()) == bundle, text
         assert tabletext.pack(tabletext.unpack(bundle)) == bundle, text
     assert len(FULL) == 65535 and tabletext.pack(tabletext.unpack(FULL)) == FULL
+
+
+def with_repeats(numbers, tables):
+    """The same tables; up to three rows stand in theirs once more, anywhere."""
+    tables = [list(rows) for rows in tables]
+    for rows in numbers.choices(tables, k=3):
+        if rows:
+            rows.insert(numbers.randint(0, len(rows)), numbers.choice(rows))
+    return tables
+
+
+def repeat_messages(text, tables):
+    """What is told of a text and of its bundle, where a row stands in its table already; None where no row does.
+
+    Each row is looked for among those above it.
+    """
+    lines = [number for number, line in enumerate(text.split("\n"), 1) if line.partition("#")[0].strip()]
+    for table, rows in enumerate(tables):
+        for place, row in enumerate(rows):
+            if row in rows[:place]:
+                told = f"line {lines[place]}: {EQUAL} as on line {lines[rows.index(row)]} (refusal 12)"
+                return told, f"no bundle: {EQUAL} table {table} (refusal 12)"
+        lines = lines[max(len(rows), 1) :]
+    return None
+
+
+def fault(work, content):
+    """The message of a fault, None where there is none."""
+    try:
+        work(content)
+    except tabletext.Fault as found:
+        return str(found)
+    return None
+
+
+def check_random_repeats():
+    """Of random tables with equal rows the line and the table are told."""
+    numbers, refused = random.Random(2), 0
+    for _ in range(400):
+        n = numbers.randint(1, 6)
+        tables = with_repeats(numbers, random_tables(numbers, n))
+        text = random_text(numbers, n, tables)
+        of_text, of_bundle = repeat_messages(text, tables) or (None, None)
+        assert fault(tabletext.pack, text.encode()) == of_text, text
+        assert fault(tabletext.unpack, packed(n, tables)) == of_bundle, text
+        refused += of_text is not None
+    assert refused > 300
 
 
 if __name__ == "__main__":
@@ -219,3 +295,4 @@ if __name__ == "__main__":
     check_streams()
     check_library()
     check_random_texts()
+    check_random_repeats()

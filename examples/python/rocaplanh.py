@@ -3,7 +3,7 @@
 The shared object is made of the archive:
     gcc -shared -o librocaplanh.so -Wl,--whole-archive libinterface.a -Wl,--no-whole-archive
 The environment variable ROCAPLANH_LIBRARY names it; include/rocaplanh.h says what each function does.
-A table is a list of rows, a row a sequence of n exponents.
+A table is a list of rows, no two of them equal; a row is a sequence of n exponents.
 """
 
 import ctypes
@@ -49,6 +49,7 @@ REASONS = {
     9: "the bundle's size, its number of tables or its header is wrong",
     10: "an offset is not the place where that table must begin",
     11: "a body passes the bundle's end, or bytes remain after the last",
+    12: "a table has two equal rows",
 }
 WRITER_REASONS = REASONS | {
     8: "the bundle is longer than 65,535 bytes",

@@ -5,9 +5,10 @@
 --   entries-here             4 over all bodies is one pass over what stands behind the header
 --   Accepted, accepted-bundle, bundle-accepted   what is known of an accepted bundle, and that this is enough
 --   length-body, length-table, flat-table   a table of it: the length of its body, its number of rows, its bytes again
---   table-passes-checks      a table of it passes the checks 1 to 4 that every operation on a table begins with
+--   body-accepted            a table of a bundle whose layout and entries passed passes the checks 1 to 4
+--   table-passes-checks      a table of an accepted bundle passes the checks 1 to 4 and 12
 use mathlib.Core.Path.{_≡_, refl, sym, ap, _∙_, subst}
-use mathlib.Core.List.{List, _++_, List·Memᴰ, Memᴰ·append-left, Memᴰ·append-right, List·Memᴰ·append-cases, List·Memᴰ·not-nil}
+use mathlib.Core.List.{List, _++_, List·Memᴰ, List·Memᴰ·append-cases, List·Memᴰ·not-nil}
 use mathlib.Core.Logic.{⊎-elim, by-cases}
 use Prim.Native.Nat.{ℕ, zero, suc, _+_, _*_, _-_, _/_, _≤_, _<_}
 use native.Mathlib.Nat.{mul-div-left}
@@ -18,15 +19,19 @@ use lib.ListN.{length, take, drop, take-append-drop, drop-of-length-le, length-d
 use lib.Seq.{drop-drop, length-take-le}
 use Rattle.checks.specs.Tests.{any, SomeBelow}
 use Rattle.checks.proofs.TestLaws.{stable, tests-same, tests-as, tests-le}
+use Rattle.terms.specs.Monomials.{Distinct}
 use Rattle.terms.specs.Rows.{flat}
 use Rattle.checks.specs.Refusals.{refusal, Accepts}
-use Rattle.terms.specs.TableChecks.{EntryAbove50, tests-entryAbove50, tableChecks}
-use Rattle.terms.proofs.RowsLaws.{length-rows, flat-rows}
-use Rattle.checks.proofs.RefusalLaws.{accepted, accepts-refusal, accepts-head, accepts-left, accepts-right, refusal-none, refusal-passes, passes-first}
+use Rattle.terms.specs.TableChecks.{EntryAbove50, tests-entryAbove50, TableAccepted}
+use Rattle.terms.proofs.RowsLaws.{member-take, member-drop, length-rows, flat-rows}
+use Rattle.checks.proofs.RefusalLaws.{accepted, accepts-refusal, accepts-head, accepts-tail, accepts-left, accepts-right, refusal-none, refusal-passes}
+use Rattle.checks.proofs.RefusalLaws.{passes-first}
 use Rattle.terms.proofs.TableLaws.{accepts-table}
+use Rattle.distinct.specs.EqualRows.{distinctChecks}
+use Rattle.distinct.proofs.CheckLaws.{refuses-distinct}
 use Rattle.bundle.specs.Format.{variablesOf, tableCount, headerLength, rowCount, offsetOf, bodyLength, placeOf, bodyOf, tableOf}
 use Rattle.bundle.specs.Checks.{LargeEntry, largeEntryTest, tests-largeEntry, frameChecks, tableChecksOf, tablesChecks, remainChecks, layoutChecks}
-use Rattle.bundle.specs.Checks.{entryChecks, bundleChecks}
+use Rattle.bundle.specs.Checks.{EqualRowsIn, bodyChecks, bundleChecks}
 use Rattle.bundle.proofs.CheckLaws.{Framed, framed-accepts, has-frame, frame-passes, TableLaid, tables-laid, table-passes}
 
 -- ---- the layout
@@ -62,12 +67,6 @@ pub laid : (b : List ℕ) → refusal (layoutChecks b) ≡ 0 → Laid b
 laid b e = laid-accepts b (accepted (layoutChecks b) e)
 
 -- ---- 4 over all bodies
-
-member-take : (n e : ℕ) (l : List ℕ) → List·Memᴰ e (take n l) → List·Memᴰ e l
-member-take n e l m = subst (List·Memᴰ e) (take-append-drop n l) (Memᴰ·append-left (drop n l) m)
-
-member-drop : (n e : ℕ) (l : List ℕ) → List·Memᴰ e (drop n l) → List·Memᴰ e l
-member-drop n e l m = subst (List·Memᴰ e) (take-append-drop n l) (Memᴰ·append-right (take n l) m)
 
 -- no body begins before the header's end
 pub place-from : (b : List ℕ) (j : ℕ) → headerLength b ≤ placeOf b j
@@ -120,17 +119,23 @@ entries-here b laid = tests-same _ _ (tests-entryAbove50 (drop (headerLength b) 
 
 -- ---- an accepted bundle
 
--- what an accepted bundle determines: its frame, each table's rows and place, where it ends, and that its entries are small
+-- what an accepted bundle determines: its frame, each table's rows and place, where it ends, that its entries are small, and that the rows of
+-- each table are distinct
 pub record Accepted (b : List ℕ) : Type 0 where
   pub layout : Laid b
   pub small : (j e : ℕ) → j < tableCount b → List·Memᴰ e (bodyOf b j) → e ≤ 50
+  pub distinct : (j : ℕ) → j < tableCount b → Distinct (tableOf b j)
+
+pub entries-small : (b : List ℕ) → (LargeEntry b → ⊥) → (j e : ℕ) → j < tableCount b → List·Memᴰ e (bodyOf b j) → e ≤ 50
+entries-small b f j x h m = stable (tests-le x 50) (λ g. f (j, h, (x, m, omega (arith, g))))
 
 pub accepted-by : (b : List ℕ) → Accepts (bundleChecks b) → Accepted b
 accepted-by b a =
+    let bodies = accepts-right (layoutChecks b) (bodyChecks b) a in
     record {
-      layout = laid-accepts b (accepts-left (layoutChecks b) (entryChecks b) a);
-      small = λ j x h m. stable (tests-le x 50)
-          (λ g. accepts-head _ _ (accepts-right (layoutChecks b) (entryChecks b) a) (j, h, (x, m, omega (arith, g))));
+      layout = laid-accepts b (accepts-left (layoutChecks b) (bodyChecks b) a);
+      small = entries-small b (accepts-head _ _ bodies);
+      distinct = λ j h r. accepts-head _ _ (accepts-tail _ _ bodies) (j, h, r);
     }
 
 pub accepted-bundle : (b : List ℕ) → refusal (bundleChecks b) ≡ 0 → Accepted b
@@ -162,7 +167,9 @@ laid-enough b l =
 pub bundle-accepted : (b : List ℕ) → Accepted b → refusal (bundleChecks b) ≡ 0
 bundle-accepted b a =
     let none : LargeEntry b → ⊥ = λ r. omega (arith, a .small (r .0) (r .2 .0) (r .1) (r .2 .1), r .2 .2) in
-    sym (passes-first (layoutChecks b) (entryChecks b) 0 (laid-enough b (a .layout)) (sym (refusal-passes _ _ none ∙ refusal-none)))
+    let apart : EqualRowsIn b → ⊥ = λ r. a .distinct (r .0) (r .1) (r .2) in
+    sym (passes-first (layoutChecks b) (bodyChecks b) 0 (laid-enough b (a .layout))
+    (sym (refusal-passes _ _ none ∙ refusal-passes _ _ apart ∙ refusal-none)))
 
 -- ---- the tables of an accepted bundle
 
@@ -183,14 +190,18 @@ module _ (b : List ℕ) (a : Laid b) (j : ℕ) (h : j < tableCount b) where
       let e : rowCount b j ≡ length (bodyOf b j) / variablesOf b = sym length-table ∙ length-rows (variablesOf b) (bodyOf b j) in
       flat-rows (variablesOf b) (bodyOf b j) (length-body ∙ ap (λ (m : ℕ). m * variablesOf b) e)
 
--- each table of an accepted bundle passes the checks of a table
-pub table-passes-checks : (b : List ℕ) → Accepted b → (j : ℕ) → j < tableCount b → refusal (tableChecks (variablesOf b) (bodyOf b j)) ≡ 0
+  -- the table passes the checks of a table, where the entries are small; and where its rows are distinct, 12 as well
+  module _ (small : (e : ℕ) → List·Memᴰ e (bodyOf b j) → e ≤ 50) where
+    pub body-accepted : TableAccepted (variablesOf b) (bodyOf b j)
+    body-accepted = record {
+      some = a .frame .someVariables;
+      six = a .frame .six;
+      whole = length-body ∙ ap (λ (m : ℕ). m * variablesOf b) (sym length-table);
+      limited = omega (arith, length-table, a .tables j h .limited);
+      small = small;
+    }
+
+pub table-passes-checks : (b : List ℕ) → Accepted b → (j : ℕ) → j < tableCount b → refusal (distinctChecks (variablesOf b) (bodyOf b j)) ≡ 0
 table-passes-checks b a j h =
-    let l = a .layout in
-    accepts-refusal _ (accepts-table (variablesOf b) (bodyOf b j) (record {
-      some = l .frame .someVariables;
-      six = l .frame .six;
-      whole = length-body b l j h ∙ ap (λ (m : ℕ). m * variablesOf b) (sym (length-table b l j h));
-      limited = omega (arith, length-table b l j h, l .tables j h .limited);
-      small = λ e m. a .small j e h m;
-    }))
+    let t = body-accepted b (a .layout) j h (λ e m. a .small j e h m) in
+    sym (refuses-distinct (variablesOf b) (bodyOf b j) (accepts-refusal _ (accepts-table (variablesOf b) (bodyOf b j) t)) (a .distinct j h))

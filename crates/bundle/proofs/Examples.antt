@@ -5,13 +5,14 @@ use mathlib.Core.List.{List, [], _∷_}
 use Prim.Native.Nat.{ℕ}
 use Rattle.terms.specs.Rows.{rows, firstRows, flat}
 use Rattle.checks.specs.Refusals.{refusal}
-use Rattle.terms.specs.ExampleTables.{tableD, bundleD}
+use Rattle.terms.specs.ExampleTables.{tableD, bundleD, bundleE}
+use Rattle.distinct.specs.EqualRows.{sameTest, equalRowsTest}
 use Rattle.bundle.specs.Format.{rowCount, offsetOf, placeOf, tablesFrom, tablesOf, countsOf, entriesOf, bodiesOf, bundleOf}
 use Rattle.bundle.specs.Checks.{tablesChecks, openChecks}
 
 -- the number with which table j of b is refused, 0 where it is opened
 unfoldable answer : List ℕ → ℕ → ℕ
-unfolding refusal tablesChecks placeOf rowCount offsetOf
+unfolding refusal tablesChecks placeOf rowCount offsetOf rows firstRows equalRowsTest sameTest
 answer b j = refusal (openChecks b j)
 
 -- ---- the paper's bundle: rows 2 1 and 0 2
@@ -98,7 +99,7 @@ byte-remains : answer (1 ∷ 1 ∷ 1 ∷ 0 ∷ 6 ∷ 0 ∷ 51 ∷ 5 ∷ []) 0 �
 unfolding answer
 byte-remains = refl
 
--- ---- 4 over all bodies, then 5
+-- ---- 4 over all bodies, then 12 over all bodies, then 5
 
 fifty : answer (1 ∷ 1 ∷ 1 ∷ 0 ∷ 6 ∷ 0 ∷ 50 ∷ []) 0 ≡ 0
 unfolding answer
@@ -108,3 +109,28 @@ fifty = refl
 fifty-one : answer (1 ∷ 1 ∷ 2 ∷ 0 ∷ 6 ∷ 0 ∷ 50 ∷ 51 ∷ []) 3 ≡ 4
 unfolding answer
 fifty-one = refl
+
+-- rows 1 and 1, and there is no table 3
+equal-rows : answer (1 ∷ 1 ∷ 2 ∷ 0 ∷ 6 ∷ 0 ∷ 1 ∷ 1 ∷ []) 3 ≡ 12
+unfolding answer
+equal-rows = refl
+
+-- equal rows in table 0, and an entry above 50 in table 1
+entry-elsewhere : answer (1 ∷ 2 ∷ 2 ∷ 0 ∷ 10 ∷ 0 ∷ 1 ∷ 0 ∷ 12 ∷ 0 ∷ 1 ∷ 1 ∷ 51 ∷ []) 0 ≡ 4
+unfolding answer
+entry-elsewhere = refl
+
+-- equal rows in table 1 refuse table 0 as well
+equal-elsewhere : answer (1 ∷ 2 ∷ 1 ∷ 0 ∷ 10 ∷ 0 ∷ 2 ∷ 0 ∷ 11 ∷ 0 ∷ 7 ∷ 7 ∷ 7 ∷ []) 0 ≡ 12
+unfolding answer
+equal-elsewhere = refl
+
+-- the same row in two tables
+same-row-twice : answer (1 ∷ 2 ∷ 1 ∷ 0 ∷ 10 ∷ 0 ∷ 1 ∷ 0 ∷ 11 ∷ 0 ∷ 7 ∷ 7 ∷ []) 1 ≡ 0
+unfolding answer
+same-row-twice = refl
+
+-- E's rows: 12 whichever table is asked for
+pub example-E : (j : ℕ) → refusal (openChecks bundleE j) ≡ 12
+unfolding answer
+example-E j = refl

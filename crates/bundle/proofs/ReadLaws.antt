@@ -1,17 +1,19 @@
 -- Laws of the reader: what `locate` and `open_table` give is what they promise, and nothing else is.
 --
 --   entry-four, entries-pass   4, decided by the pass over what stands behind the header
+--   rows-twelve, rows-pass   12, decided by the pass over the tables
+--   part-within, part-body, part-accepted   the part of the bundle that the header tells for a table
 --   numbers, zeros           the numbers of an opened table, and those beside a refusal
 --   opens-table              an accepted bundle that has a table j opens it
 --   locate-refused, locate-none, locate-opens   the three answers of `locate`
 --   open-accepted            an opened table is one of an accepted bundle
 --   locate-unique, open-unique   two results that the promise allows are equal
 --   found-within, body-shown, opens   what is located and cut out of the bundle is the table
-use mathlib.Core.Path.{_≡_, sym, _∙_}
+use mathlib.Core.Path.{_≡_, sym, ap, ap₂, _∙_, subst}
 use mathlib.Core.Bool.{Bool, true, false}
 use mathlib.Core.List.{List, []}
 use mathlib.Core.Logic.{by-cases}
-use Prim.Native.Nat.{ℕ, _*_, _-_, _≤_, _<_}
+use Prim.Native.Nat.{ℕ, _+_, _*_, _-_, _≤_, _<_}
 use native.Mathlib.Decide.{ℕ-discrete}
 use native.Mathlib.Omega.{arith}
 use lib.Dec.{ltb}
@@ -22,13 +24,18 @@ use Rattle.checks.proofs.TestLaws.{stable, true-tests, false-tests, tests-lt}
 use Rattle.checks.specs.Refusals.{refusal, answered}
 use Rattle.checks.proofs.RefusalLaws.{refusal-none, refusal-holds, refusal-passes, refuses-first, passes-first, accepted, accepts-head, accepts-left}
 use Rattle.checks.proofs.RefusalLaws.{accepts-right, answered-accepted, answered-refused}
-use Rattle.bundle.specs.Format.{variablesOf, tableCount, headerLength, rowCount, offsetOf, placeOf, bodyOf}
-use Rattle.bundle.specs.Checks.{numberChecks, openChecks, layoutChecks, entryChecks, bundleChecks, largeEntryTest, tests-largeEntry}
+use Rattle.bundle.specs.Format.{variablesOf, tableCount, headerLength, rowCount, offsetOf, bodyLength, placeOf, bodyOf, tableOf}
+use Rattle.bundle.specs.Checks.{numberChecks, openChecks, layoutChecks, bodyChecks, bundleChecks, LargeEntry, largeEntryTest, tests-largeEntry}
+use Rattle.bundle.specs.Checks.{equalRowsInTest, tests-equalRowsIn}
 use Rattle.bundle.specs.Operation.{LocatePromise, FoundWithin, PartOf, OpenPromise, SameOpened}
 use Rattle.bundle.specs.declared.Located.{Located}
 use Rattle.bundle.specs.declared.OpenedTable.{OpenedTable}
 use denote.Ref.{RefT, now}
-use Rattle.bundle.proofs.AcceptedLaws.{laid, entries-here, Accepted, accepted-by, accepted-bundle}
+use Rattle.terms.specs.Rows as terms
+use Rattle.terms.specs.TableChecks.{TableAccepted}
+use Rattle.distinct.specs.EqualRows.{equalRowsTest}
+use Rattle.bundle.proofs.CheckLaws.{TableLaid}
+use Rattle.bundle.proofs.AcceptedLaws.{laid, entries-here, entries-small, Accepted, accepted-by, accepted-bundle, body-accepted}
 
 -- ---- the reader
 
@@ -42,11 +49,47 @@ module _ (b : List ℕ) (start : ℕ) (found : Bool) (passed : refusal (layoutCh
   decides = s ∙ rw whole-part (entries-here b (laid b passed))
 
   pub entry-four : found ≡ true → 4 ≡ refusal (bundleChecks b)
-  entry-four h = passes-first (layoutChecks b) (entryChecks b) 4 passed (sym (refusal-holds _ _ (true-tests (tests-largeEntry b) (sym decides ∙ h))))
+  entry-four h = passes-first (layoutChecks b) (bodyChecks b) 4 passed (sym (refusal-holds _ _ (true-tests (tests-largeEntry b) (sym decides ∙ h))))
 
-  pub entries-pass : found ≡ false → 0 ≡ refusal (bundleChecks b)
-  entries-pass h = passes-first (layoutChecks b) (entryChecks b) 0 passed
-      (sym (refusal-passes _ _ (false-tests (tests-largeEntry b) (sym decides ∙ h)) ∙ refusal-none))
+  pub entries-pass : found ≡ false → LargeEntry b → ⊥
+  entries-pass h = false-tests (tests-largeEntry b) (sym decides ∙ h)
+
+-- 12 is decided by the pass over the tables
+module _ (b : List ℕ) (found : Bool) (passed : refusal (layoutChecks b) ≡ 0) (small : LargeEntry b → ⊥) (s : found ≡ equalRowsInTest b) where
+  pub rows-twelve : found ≡ true → 12 ≡ refusal (bundleChecks b)
+  rows-twelve h = passes-first (layoutChecks b) (bodyChecks b) 12 passed
+      (sym (refusal-passes _ _ small ∙ refusal-holds _ _ (true-tests (tests-equalRowsIn b) (sym s ∙ h))))
+
+  pub rows-pass : found ≡ false → 0 ≡ refusal (bundleChecks b)
+  rows-pass h = passes-first (layoutChecks b) (bodyChecks b) 0 passed
+      (sym (refusal-passes _ _ small ∙ refusal-passes _ _ (false-tests (tests-equalRowsIn b) (sym s ∙ h)) ∙ refusal-none))
+
+-- the part of the bundle that the header tells is the body of table j, and passes the checks 1 to 4
+module _ (b : List ℕ) (j : ℕ) (passed : refusal (layoutChecks b) ≡ 0) (small : LargeEntry b → ⊥) (h : j < tableCount b) (n rows start : ℕ)
+    (e : n ≡ variablesOf b) (r : rows ≡ rowCount b j) (o : start ≡ offsetOf b j) where
+  abbrev there : TableLaid b j
+  there = laid b passed .tables j h
+
+  size : rows * n ≡ bodyLength b j
+  size = rw (e, r)
+
+  pub part-within : start + rows * n ≤ length b
+  unfolding placeOf
+  part-within = omega (arith, size, there .begins, there .within)
+
+  pub part-body : take (start + rows * n - start) (drop start b) ≡ bodyOf b j
+  part-body =
+      let k : start + rows * n - start ≡ bodyLength b j = omega (arith, size) in
+      ap (λ (m : ℕ). take m (drop start b)) k ∙ ap (λ (m : ℕ). take (bodyLength b j) (drop m b)) (o ∙ there .begins)
+
+  pub part-accepted : TableAccepted n (take (start + rows * n - start) (drop start b))
+  part-accepted = subst (λ (k : ℕ). TableAccepted k (take (start + rows * n - start) (drop start b))) (sym e)
+      (subst (λ (l : List ℕ). TableAccepted (variablesOf b) l) (sym part-body)
+      (body-accepted b (laid b passed) j h (λ x m. entries-small b small j x h m)))
+
+  -- so what is found of its rows is found of table j
+  pub part-rows : (found : Bool) → found ≡ equalRowsTest (terms.rows n (take (start + rows * n - start) (drop start b))) → found ≡ equalRowsTest (tableOf b j)
+  part-rows found f = f ∙ ap₂ (λ (k : ℕ) (l : List ℕ). equalRowsTest (terms.rows k l)) e part-body
 
 pub opens-table : (b : List ℕ) (j : ℕ) → refusal (bundleChecks b) ≡ 0 → j < tableCount b → 0 ≡ refusal (openChecks b j)
 opens-table b j e h =

@@ -6,14 +6,15 @@
 --   PassesEnd b j       11: body j passes the end
 --   BytesRemain b       11: bytes remain after the last body
 --   LargeEntry b        4: an entry above 50 in some body
+--   EqualRowsIn b       12: two equal rows in some table
 --   NoSuchTable b j     5: table number not in the bundle
 --   tableChecksOf b j   the checks of one table: 3, 10, 11
 --   tablesChecks b j m  those of the tables j to j + m − 1, table by table
 --   frameChecks b       9 and 1
 --   remainChecks b      11: bytes remaining
 --   layoutChecks b      9, 1, the checks of each table, and bytes remaining
---   entryChecks b       4, over all bodies
---   bundleChecks b      all that do not depend on the table asked for: the layout, then 4 over all bodies
+--   bodyChecks b        4 over all bodies, then 12 over all bodies
+--   bundleChecks b      all that do not depend on the table asked for: the layout, then the bodies
 --   numberChecks b j    5
 --   openChecks b j      the checks of `open table j`: those of the bundle, then 5
 --
@@ -28,8 +29,10 @@ use lib.ListN.{length}
 use Rattle.checks.specs.Tests.{Tests, any, SomeBelow, someBelow}
 use Rattle.checks.proofs.TestLaws.{tests-le, tests-lt, tests-eq, tests-and, tests-or, tests-not, tests-someBelow}
 use Rattle.checks.specs.Refusals.{Check, check}
+use Rattle.terms.specs.Monomials.{EqualRows}
 use Rattle.terms.specs.TableChecks.{EntryAbove50, tests-entryAbove50, tests-notOneToSix}
-use Rattle.bundle.specs.Format.{variablesOf, tableCount, headerLength, rowCount, offsetOf, bodyLength, placeOf, bodyOf}
+use Rattle.distinct.specs.EqualRows.{equalRowsTest, tests-equalRows}
+use Rattle.bundle.specs.Format.{variablesOf, tableCount, headerLength, rowCount, offsetOf, bodyLength, placeOf, bodyOf, tableOf}
 
 -- ---- the conditions
 
@@ -50,6 +53,9 @@ BytesRemain b = placeOf b (tableCount b) < length b
 
 abbrev pub LargeEntry : List ℕ → Type 0
 LargeEntry b = SomeBelow (tableCount b) (λ j. EntryAbove50 (bodyOf b j))
+
+abbrev pub EqualRowsIn : List ℕ → Type 0
+EqualRowsIn b = SomeBelow (tableCount b) (λ j. EqualRows (tableOf b j))
 
 abbrev pub NoSuchTable : List ℕ → ℕ → Type 0
 NoSuchTable b j = tableCount b ≤ j
@@ -86,6 +92,12 @@ largeEntryTest b = someBelow (tableCount b) (λ j. any (λ e. ltb 50 e) (bodyOf 
 pub tests-largeEntry : (b : List ℕ) → Tests (largeEntryTest b) (LargeEntry b)
 tests-largeEntry b = tests-someBelow (tableCount b) (λ j. tests-entryAbove50 (bodyOf b j))
 
+abbrev pub equalRowsInTest : List ℕ → Bool
+equalRowsInTest b = someBelow (tableCount b) (λ j. equalRowsTest (tableOf b j))
+
+pub tests-equalRowsIn : (b : List ℕ) → Tests (equalRowsInTest b) (EqualRowsIn b)
+tests-equalRowsIn b = tests-someBelow (tableCount b) (λ j. tests-equalRows (tableOf b j))
+
 -- ---- the order
 
 abbrev pub frameChecks : List ℕ → List Check
@@ -105,14 +117,14 @@ tablesChecks b j (suc m) = tableChecksOf b j ++ tablesChecks b (suc j) m
 abbrev pub remainChecks : List ℕ → List Check
 remainChecks b = check 11 (lit< tt) (tests-bytesRemain b) ∷ []
 
-abbrev pub entryChecks : List ℕ → List Check
-entryChecks b = check 4 (lit< tt) (tests-largeEntry b) ∷ []
+abbrev pub bodyChecks : List ℕ → List Check
+bodyChecks b = check 4 (lit< tt) (tests-largeEntry b) ∷ check 12 (lit< tt) (tests-equalRowsIn b) ∷ []
 
 abbrev pub layoutChecks : List ℕ → List Check
 layoutChecks b = frameChecks b ++ (tablesChecks b 0 (tableCount b) ++ remainChecks b)
 
 abbrev pub bundleChecks : List ℕ → List Check
-bundleChecks b = layoutChecks b ++ entryChecks b
+bundleChecks b = layoutChecks b ++ bodyChecks b
 
 abbrev pub numberChecks : List ℕ → ℕ → List Check
 numberChecks b j = check 5 (lit< tt) (tests-noSuchTable b j) ∷ []

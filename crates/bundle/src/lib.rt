@@ -4,7 +4,9 @@ ghost use mathlib.Core.List.{_++_};
 ghost use Prim.Native.Nat.{_+_, _*_, _≤_, _<_};
 ghost use lib.ListN.{length};
 ghost use Rattle.checks.specs.Refusals.{refusal};
-ghost use Rattle.bundle.specs.Format.{byteAt, number16, variablesOf, tableCount, placeOf};
+ghost use Rattle.distinct.specs.EqualRows.{equalRowsTest};
+ghost use Rattle.bundle.specs.Format.{byteAt, number16, variablesOf, tableCount, placeOf, tableOf};
+ghost use Rattle.bundle.specs.Checks.{LargeEntry, equalRowsInTest};
 ghost use Rattle.bundle.specs.Checks.{frameChecks, tableChecksOf, tablesChecks, remainChecks, layoutChecks, bundleChecks};
 ghost use Rattle.bundle.specs.Operation.{LocatePromise, FoundWithin, PartOf, OpenPromise};
 
@@ -124,6 +126,33 @@ fn layout_refusal(bundle: &[u8]) -> u8
     tables_refusal(n, bundle, tables)
 }
 
+// Whether table j of a bundle whose layout and entries passed has equal rows.
+fn table_has_equal_rows(n: usize, bundle: &[u8], j: usize) -> bool
+    requires { ⌜ (refusal (layoutChecks (now bundle)) ≡ 0) × (LargeEntry (now bundle) → ⊥) × (n ≡ variablesOf (now bundle)) × (j < tableCount (now bundle)) ⌝ }
+    ensures { λ r. ⌜ r ≡ equalRowsTest (tableOf (now (bundle .entry)) j) ⌝ }
+{
+    let rows = read16(bundle, 2 + 4 * j);
+    let start = read16(bundle, 4 + 4 * j);
+    let end = start + rows * n;
+    distinct::has_equal_rows(n, &bundle[start..end])
+}
+
+// Whether some table of such a bundle has.
+fn some_equal_rows(n: usize, bundle: &[u8], tables: usize) -> bool
+    requires { ⌜ (refusal (layoutChecks (now bundle)) ≡ 0) × (LargeEntry (now bundle) → ⊥) × (n ≡ variablesOf (now bundle))
+        × (tables ≡ tableCount (now bundle)) ⌝ }
+    ensures { λ r. ⌜ r ≡ equalRowsInTest (now (bundle .entry)) ⌝ }
+{
+    let mut j = 0;
+    while j < tables {
+        if table_has_equal_rows(n, bundle, j) {
+            return true;
+        }
+        j += 1;
+    }
+    false
+}
+
 // The number of the first check that refuses the bundle, whichever table is asked for; 0 where none does.
 pub fn bundle_refusal(bundle: &[u8]) -> u8
     ensures { λ r. ⌜ r ≡ refusal (bundleChecks (now (bundle .entry))) ⌝ }
@@ -132,10 +161,14 @@ pub fn bundle_refusal(bundle: &[u8]) -> u8
     if number != 0 {
         return number;
     }
+    let n = byte_at(bundle, 0);
     let tables = byte_at(bundle, 1);
     let start = 2 + 4 * tables;
     if terms::has_large_entry(&bundle[start..]) {
         return 4;
+    }
+    if some_equal_rows(n, bundle, tables) {
+        return 12;
     }
     0
 }

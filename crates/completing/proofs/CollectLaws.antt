@@ -4,7 +4,7 @@
 --   collected              the recursion on the whole table gives rule 5's table
 --   room-whole, room-limit   the room, where it is the buffer's and where it is 4,096
 --   checked, collect-asks  what the checks let pass, and that it can be collected
---   complete-early, complete-full, complete-done   the promise: refused by the checks 1 to 4, refused for room, accepted
+--   complete-early, complete-full, complete-done   the promise: refused by the checks 1 to 4 and 12, refused for room, accepted
 use mathlib.Core.Path.{_≡_, sym, ap, _∙_}
 use mathlib.Core.List.{List, [], _∷_}
 use Prim.Native.Nat.{ℕ, zero, suc, _+_, _*_, _-_, _/_, _≤_, _<_}
@@ -15,10 +15,11 @@ use lib.Seq.{paste, take-paste}
 use Rattle.terms.specs.Monomials.{Table}
 use Rattle.terms.specs.Rows.{firstRows, rows}
 use Rattle.checks.specs.Refusals.{Accepts, refusal}
-use Rattle.terms.specs.TableChecks.{tableChecks, TableAccepted}
+use Rattle.terms.specs.TableChecks.{TableAccepted}
+use Rattle.distinct.specs.EqualRows.{distinctChecks}
 use Rattle.terms.proofs.RowsLaws.{rows-size, length-rows}
 use Rattle.checks.proofs.RefusalLaws.{accepted, refuses-first}
-use Rattle.terms.proofs.TableLaws.{table-passed}
+use Rattle.distinct.proofs.CheckLaws.{distinct-table}
 use Rattle.completion.specs.Slices.{slices}
 use Rattle.blocks.specs.Bytes.{after, fit}
 use Rattle.completing.specs.Operation.{roomFor, completedOf, roomCheck, completeChecks, completedBuffer, CompletePromise}
@@ -104,17 +105,17 @@ room-limit n size h = sym (min-eq-left {n = 4096} {m = size / n} h)
 -- ---- the promise
 
 module _ (n : ℕ) (table buffer : List ℕ) where
-  -- the checks 1 to 4 refuse
-  pub complete-early : {m : ℕ} → m ≡ refusal (tableChecks n table) → (m ≡ 0 → ⊥) → CompletePromise n table buffer (Refused m) buffer
+  -- the checks 1 to 4 and 12 refuse
+  pub complete-early : {m : ℕ} → m ≡ refusal (distinctChecks n table) → (m ≡ 0 → ⊥) → CompletePromise n table buffer (Refused m) buffer
   complete-early {m} e f =
-      complete-refuses n table buffer m (pos-of-ne-zero f) (refuses-first (tableChecks n table) (roomCheck n table (length buffer) ∷ []) m e f)
+      complete-refuses n table buffer m (pos-of-ne-zero f) (refuses-first (distinctChecks n table) (roomCheck n table (length buffer) ∷ []) m e f)
 
-  module _ {m : ℕ} (e : m ≡ refusal (tableChecks n table)) (z : m ≡ 0) where
-    accepts : Accepts (tableChecks n table)
-    accepts = accepted (tableChecks n table) (sym e ∙ z)
+  module _ (e : refusal (distinctChecks n table) ≡ 0) where
+    accepts : Accepts (distinctChecks n table)
+    accepts = accepted (distinctChecks n table) e
 
     pub checked : TableAccepted n table
-    checked = table-passed n table m e z
+    checked = distinct-table n table e
 
     pub collect-asks : (out : List ℕ) (room : ℕ) → length out ≡ 4096 * 6 → room ≡ roomFor n (length buffer) → Collects n table (length table / n) out room
     collect-asks out room l r =

@@ -8,7 +8,7 @@
 --   complete-positive      the number of a refusal is above 0
 --   complete-length        no result changes the buffer's length
 --   room-fits              rows within the room fit the buffer
---   room-enough, no-room   8 after the checks 1 to 4 passed, in terms of the completed table
+--   room-enough, no-room   8 after the checks 1 to 4 and 12 passed, in terms of the completed table
 use mathlib.Core.Path.{_≡_, refl, sym, ap, ap₂, _∙_, subst}
 use mathlib.Core.List.{List, [], _∷_}
 use Prim.Native.Nat.{ℕ, zero, suc, _*_, _/_, _≤_, _<_}
@@ -20,7 +20,7 @@ use Rattle.checks.proofs.TestLaws.{stable, tests-le}
 use Rattle.terms.specs.Monomials.{Table, OfSize}
 use Rattle.terms.specs.Rows.{rows, firstRows, flat}
 use Rattle.checks.specs.Refusals.{Check, Accepts, refusal}
-use Rattle.terms.specs.TableChecks.{tableChecks}
+use Rattle.distinct.specs.EqualRows.{distinctChecks}
 use Rattle.checks.proofs.RefusalLaws.{accepted, accepts-head, accepts-right, refusal-none, refusal-holds, refusal-passes, refusal-append, answered-accepted}
 use Rattle.checks.proofs.RefusalLaws.{answered-refused, numbered-refused}
 use Rattle.terms.proofs.RowsLaws.{rows-size, length-flat, firstRows-flat}
@@ -64,17 +64,17 @@ module _ (n : ℕ) (table buffer : List ℕ) where
         writes = sym (answered-refused checks (completedBuffer n table buffer) buffer f);
       }
 
--- ---- after the checks 1 to 4
+-- ---- after the checks 1 to 4 and 12
 
-pub room-enough : (n : ℕ) (table : List ℕ) (size : ℕ) → Accepts (tableChecks n table) → length (completedOf n table) ≤ roomFor n size →
+pub room-enough : (n : ℕ) (table : List ℕ) (size : ℕ) → Accepts (distinctChecks n table) → length (completedOf n table) ≤ roomFor n size →
     refusal (completeChecks n table size) ≡ 0
 room-enough n table size a l =
-    refusal-append (tableChecks n table) (roomCheck n table size ∷ []) a
+    refusal-append (distinctChecks n table) (roomCheck n table size ∷ []) a
     ∙ refusal-passes (roomCheck n table size) [] (λ (h : NoRoom n table size). omega arith)
     ∙ refusal-none
 
-pub no-room : (n : ℕ) (table : List ℕ) (size : ℕ) → Accepts (tableChecks n table) → NoRoom n table size → refusal (completeChecks n table size) ≡ 8
-no-room n table size a h = refusal-append (tableChecks n table) (roomCheck n table size ∷ []) a ∙ refusal-holds (roomCheck n table size) [] h
+pub no-room : (n : ℕ) (table : List ℕ) (size : ℕ) → Accepts (distinctChecks n table) → NoRoom n table size → refusal (completeChecks n table size) ≡ 8
+no-room n table size a h = refusal-append (distinctChecks n table) (roomCheck n table size ∷ []) a ∙ refusal-holds (roomCheck n table size) [] h
 
 -- ---- what stands in the buffer
 
@@ -92,7 +92,7 @@ room-limited n size = min-le-left 4096 (size / n)
 -- a table that is accepted has room
 pub accepted-room : (n : ℕ) (table : List ℕ) (size : ℕ) → refusal (completeChecks n table size) ≡ 0 → length (completedOf n table) ≤ roomFor n size
 accepted-room n table size e = stable (tests-le (length (completedOf n table)) (roomFor n size)) (λ g. accepts-head (roomCheck n table size) []
-    (accepts-right (tableChecks n table) (roomCheck n table size ∷ []) (accepted (completeChecks n table size) e)) (omega (arith, g)))
+    (accepts-right (distinctChecks n table) (roomCheck n table size ∷ []) (accepted (completeChecks n table size) e)) (omega (arith, g)))
 
 -- the completed rows have n exponents each
 pub completedOf-size : (n : ℕ) (table : List ℕ) → OfSize n (completedOf n table)

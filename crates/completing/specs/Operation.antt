@@ -3,7 +3,7 @@
 --   roomFor n size         the room for completed rows in a lent buffer: the lesser of 4,096 and its length divided by n, rounded down
 --   completedOf n table    the completed table of the rows that the bytes are
 --   NoRoom n table size    8: more rows than room
---   completeChecks n table size   the checks in order: 1 to 4 of the table, 8
+--   completeChecks n table size   the checks in order: 1 to 4 and 12 of the table, 8
 --   completeNumber, completeRows  the paper's number of an answer, 0 for none, and the row count, 0 beside a refusal
 --   completeAnswer m k     the answer of that number and row count: the rows, or the refusal
 --   completedBuffer n table buffer   the buffer with the completed rows at its front; the bytes behind them stay
@@ -19,7 +19,7 @@ use Rattle.checks.proofs.TestLaws.{tests-lt}
 use Rattle.terms.specs.Monomials.{Table}
 use Rattle.terms.specs.Rows.{rows, flat}
 use Rattle.checks.specs.Refusals.{Check, refusal, check, answered, numbered}
-use Rattle.terms.specs.TableChecks.{tableChecks}
+use Rattle.distinct.specs.EqualRows.{distinctChecks}
 use Rattle.completion.specs.Completed.{completed}
 use Rattle.completing.specs.declared.CompleteAnswer.{CompleteAnswer}
 use Rattle.completing.specs.declared.CompleteAnswer.the-variants.{Rows, Refused}
@@ -43,7 +43,7 @@ abbrev pub roomCheck : ℕ → List ℕ → ℕ → Check
 roomCheck n table size = check 8 (lit< tt) (tests-noRoom n table size)
 
 abbrev pub completeChecks : ℕ → List ℕ → ℕ → List Check
-completeChecks n table size = tableChecks n table ++ (roomCheck n table size ∷ [])
+completeChecks n table size = distinctChecks n table ++ (roomCheck n table size ∷ [])
 
 -- ---- the answer and the buffer
 

@@ -1,12 +1,14 @@
 // The completed table of a table (rule 5), by slices of the first variable: the operation `complete`.
+use distinct::distinct_refusal;
 use slicing::append_completed;
 use terms::MOST_ROWS;
 use terms::Row;
-use terms::table_refusal;
 use writing::copy_from;
 ghost use mathlib.Core.Path.{_≡_};
 ghost use Prim.Native.Nat.{_*_, _≤_, _<_};
 ghost use lib.ListN.{length};
+ghost use Rattle.checks.specs.Refusals.{refusal};
+ghost use Rattle.distinct.specs.EqualRows.{distinctChecks};
 ghost use Rattle.completing.specs.Collect.{Collects, Collected};
 ghost use Rattle.completing.specs.Operation.{roomFor, CompletePromise};
 
@@ -90,14 +92,11 @@ fn room_for(n: usize, size: usize) -> usize
     MOST_ROWS
 }
 
-// Writes the completed table of a table to the front of a lent buffer; the bytes behind it stay, and on refusal all do.
-pub fn complete(n: usize, table: &[u8], buffer: &mut [u8]) -> CompleteAnswer
+// Writes the completed table of a table that the checks 1 to 4 and 12 let pass to the front of a lent buffer, or refuses it for room.
+pub fn complete_checked(n: usize, table: &[u8], buffer: &mut [u8]) -> CompleteAnswer
+    requires { ⌜ refusal (distinctChecks n (now table)) ≡ 0 ⌝ }
     ensures { λ r. ⌜ CompletePromise n (now (table .entry)) (now (buffer .entry)) r (now (buffer .exit)) ⌝ }
 {
-    let refused = table_refusal(n, table);
-    if refused != 0 {
-        return CompleteAnswer::Refused(refused);
-    }
     let room = room_for(n, buffer.len());
     let mut out = [0u8; COMPLETED_SIZE];
     let count = collect(n, table, table.len() / n, &mut out, room);
@@ -107,4 +106,15 @@ pub fn complete(n: usize, table: &[u8], buffer: &mut [u8]) -> CompleteAnswer
     let written: &[u8] = &out;
     copy_from(buffer, 0, written, 0, count * n);
     CompleteAnswer::Rows(count)
+}
+
+// Writes the completed table of a table to the front of a lent buffer; the bytes behind it stay, and on refusal all do.
+pub fn complete(n: usize, table: &[u8], buffer: &mut [u8]) -> CompleteAnswer
+    ensures { λ r. ⌜ CompletePromise n (now (table .entry)) (now (buffer .entry)) r (now (buffer .exit)) ⌝ }
+{
+    let refused = distinct_refusal(n, table);
+    if refused != 0 {
+        return CompleteAnswer::Refused(refused);
+    }
+    complete_checked(n, table, buffer)
 }

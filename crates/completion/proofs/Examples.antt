@@ -1,4 +1,4 @@
--- Examples A, B, D, E, H and I of the paper, of rule 5.
+-- Examples A, B, D, H and I of the paper, of rule 5.
 --
 --   example-A ..           the completed table computes to the paper's
 --   example-A-table ..     that table is rule 5's, in the paper's words
@@ -10,7 +10,7 @@ use lib.ListN.{length}
 use Rattle.checks.specs.Tests.{all}
 use Rattle.checks.proofs.TestLaws.{tests-all, tests-eq}
 use Rattle.terms.specs.Monomials.{Monomial, Table, OfSize}
-use Rattle.terms.specs.ExampleTables.{tableB, tableD, completedD, tableE, completedE, tableF, completedF, tableI, completedI}
+use Rattle.terms.specs.ExampleTables.{tableB, tableD, completedD, tableF, completedF, tableI, completedI}
 use Rattle.completion.specs.Completed.{CompletedTable, completed}
 use Rattle.completion.proofs.RuleFive.{completed-table}
 
@@ -47,15 +47,6 @@ example-D = refl
 
 pub example-D-table : CompletedTable 2 tableD completedD
 example-D-table = table-of 2 tableD completedD tt example-D
-
--- ---- E: one row twice
-
-pub example-E : completed 2 tableE ≡ completedE
-unfolding completed
-example-E = refl
-
-pub example-E-table : CompletedTable 2 tableE completedE
-example-E-table = table-of 2 tableE completedE tt example-E
 
 -- ---- H: document 002, example 5.2
 

@@ -19,14 +19,15 @@ use native.Mathlib.Omega.{arith}
 use lib.ListN.{length, set, length-set}
 use lib.Seq.{getD-set-same, getD-set-other}
 use Rattle.checks.proofs.TestLaws.{decide}
-use Rattle.terms.specs.Monomials.{Monomial, Table, _!_, _∈_, rowAt, OfSize, SameBefore, times}
+use Rattle.terms.specs.Monomials.{Monomial, Table, _!_, _∈_, rowAt, OfSize, Distinct, SameBefore, times}
+use Rattle.terms.proofs.OrderLaws.{ascending-distinct}
 use Rattle.terms.specs.Ideal.{Divides, Inside, SameIdeal}
 use Rattle.terms.proofs.MonomialLaws.{within, positive, three, at-or-other, below-suc, before-zero, before-suc, same-all, length-times, times-same}
 use Rattle.terms.proofs.MonomialLaws.{times-other, times-above}
 use Rattle.terms.proofs.IdealLaws.{inside-up, inside?}
-use Rattle.division.specs.Cones.{DivisorAt, Distinct}
+use Rattle.division.specs.Cones.{DivisorAt}
 use Rattle.division.specs.Janet.{Multiplicative, JanetDivisor, Complete}
-use Rattle.division.proofs.JanetLaws.{divisor-at, at-divisor, at-most-one, same-prefix, janet-disjoint, ascending-distinct}
+use Rattle.division.proofs.JanetLaws.{divisor-at, at-divisor, at-most-one, same-prefix, janet-disjoint}
 use Rattle.division.proofs.Cover.{cover, outside-none}
 use Rattle.completion.specs.Completed.{Enters, Completed, CompletedTable}
 use Rattle.completion.proofs.RuleFive.{tests-enters}

@@ -12,7 +12,8 @@ use Rattle.terms.specs.Monomials.{Monomial, Table, _∈_, OfSize, degree}
 use Rattle.terms.specs.Ideal.{insideTest}
 use Rattle.terms.specs.Order.{Ascending}
 use Rattle.division.proofs.Facade.{Multiplicative, multiplicativeTest, marksCount, marksIn, Complete, tests-multiplicative, marksIn-count, janet-disjoint}
-use Rattle.division.proofs.Facade.{ascending-distinct, cover}
+use Rattle.terms.proofs.OrderLaws.{ascending-distinct}
+use Rattle.division.proofs.Facade.{cover}
 use Rattle.counts.specs.Counts.{sum, monomialsUpTo, countAt, share}
 use Rattle.counts.proofs.SumLaws.{sum-same}
 use Rattle.counts.proofs.CountLaws.{shares-inside, count-formula}

@@ -24,10 +24,10 @@ use lib.ListN.{length, drop}
 use lib.Seq.{drop-cons, drop-length}
 use Rattle.checks.specs.Tests.{Tests, pick, keep}
 use Rattle.checks.proofs.TestLaws.{tests-same, true-tests, false-tests, keep-in, keep-make, tests-le, tests-eq, tests-or, tests-all}
-use Rattle.terms.specs.Monomials.{Monomial, Table, _!_, rowAt, OfSize, SameBefore, degree}
+use Rattle.terms.specs.Monomials.{Monomial, Table, _!_, rowAt, OfSize, Distinct, SameBefore, degree}
 use Rattle.terms.proofs.MonomialLaws.{beyond, within, below-suc, before-suc, before-first}
 use Rattle.terms.proofs.RowsLaws.{member-at, member-index}
-use Rattle.division.specs.Cones.{Division, DivisorAt, Distinct, Disjoint}
+use Rattle.division.specs.Cones.{Division, DivisorAt, Disjoint}
 use Rattle.division.specs.Janet.{InGroup, Multiplicative, JanetDivisor, janetTest, coveredTest}
 use Rattle.division.specs.Scan.{Answers, AnswersFirst, scanFrom, scan, foundTest}
 use Rattle.division.specs.Descent.{Descent, EndedAt, first, last, numbersFrom, exponents, steppedOn, goesOn, onward, descend, descent}

@@ -10,7 +10,6 @@
 --   same-prefix            Janet divisors of monomials that are equal before i are equal before i
 --   unique                 Janet divisors of one monomial are equal
 --   janet-disjoint         in a table of distinct rows Janet's cones are disjoint
---   ascending-distinct     the rows of an ascending table are distinct
 use mathlib.Core.Path.{_≡_, refl, sym, _∙_, subst}
 use mathlib.Core.List.{[]}
 use mathlib.Core.Logic.{by-cases}
@@ -22,13 +21,11 @@ use lib.ListN.{length}
 use Rattle.checks.specs.Tests.{Tests}
 use Rattle.checks.proofs.TestLaws.{decide, tests-as, tests-le, tests-lt, tests-eq, tests-and, tests-not, tests-implies, tests-each, tests-all, tests-any}
 use Rattle.checks.proofs.TestLaws.{keep-in, keep-make}
-use Rattle.terms.specs.Monomials.{Monomial, Table, _!_, _∈_, rowAt, OfSize, SameBefore, times}
-use Rattle.terms.specs.Order.{Precedes, Ascending}
+use Rattle.terms.specs.Monomials.{Monomial, Table, _!_, _∈_, rowAt, OfSize, Distinct, SameBefore, times}
 use Rattle.terms.proofs.MonomialLaws.{beyond, within, positive, before-zero, before-suc, same-all}
 use Rattle.terms.proofs.IdealLaws.{tests-divides}
-use Rattle.terms.proofs.OrderLaws.{precedes-irreflexive, ascending-between}
 use Rattle.terms.proofs.RowsLaws.{member-at, member-index}
-use Rattle.division.specs.Cones.{Division, Cone, Divisor, DivisorAt, Distinct, Disjoint}
+use Rattle.division.specs.Cones.{Division, Cone, Divisor, DivisorAt, Disjoint}
 use Rattle.division.specs.Janet.{InGroup, group, Multiplicative, JanetDivisor, Complete, sameBeforeTest, multiplicativeTest, janetTest, coveredTest}
 use Rattle.division.specs.Janet.{completeTest}
 
@@ -139,10 +136,8 @@ unique {u = u} {v = v} z d e =
     same-all u v (z u (d .member) ∙ sym (z v (e .member))) (λ i. same-prefix (suc i) d e (λ j l. refl) i (omega arith))
 
 pub janet-disjoint : {n : ℕ} {G : Table} → OfSize n G → Distinct G → Disjoint Multiplicative G
-janet-disjoint z f r s g q d e = f r s (d .within) (e .within) g (unique z (at-divisor d) (at-divisor e))
-
--- the earlier of two rows precedes the later
-pub ascending-distinct : (G : Table) → Ascending G → Distinct G
-ascending-distinct G a r s l h g e = by-cases (decLt r s)
-    (λ k. precedes-irreflexive (rowAt G s) (subst (λ (u : Monomial). Precedes u (rowAt G s)) e (ascending-between G a r s k h)))
-    (λ k. precedes-irreflexive (rowAt G s) (subst (λ (u : Monomial). Precedes (rowAt G s) u) e (ascending-between G a s r (omega (arith, g)) l)))
+janet-disjoint z f r s g q d e =
+    let same = unique z (at-divisor d) (at-divisor e) in
+    by-cases (decLt r s)
+    (λ l. f (s, e .within, (r, l, same)))
+    (λ k. f (r, d .within, (s, omega (arith, g), sym same)))

@@ -4,7 +4,6 @@
 --   Cone Marked u q  q is in the cone of u whose marked variables are `Marked` (rule 3)
 --   Divisor M G u q  u is a row of G, and q is in the cone that the marks M give it (rule 3)
 --   DivisorAt M G r q   the same of row number r
---   Distinct G       two row numbers of G have different rows
 --   Disjoint M G     no monomial is in the cones of two row numbers
 --   Covers M n G     each monomial of the ideal of G is in the cone of some row number
 --   CompleteBy M n G   rule 4, read with the marks M
@@ -29,9 +28,6 @@ pub record Divisor (M : Division) (G : Table) (u q : Monomial) : Type 0 where
 pub record DivisorAt (M : Division) (G : Table) (r : ℕ) (q : Monomial) : Type 0 where
   pub within : r < length G
   pub cone : Cone (M G (rowAt G r)) (rowAt G r) q
-
-abbrev pub Distinct : Table → Type 0
-Distinct G = (r s : ℕ) → r < length G → s < length G → (r ≡ s → ⊥) → rowAt G r ≡ rowAt G s → ⊥
 
 abbrev pub Disjoint : Division → Table → Type 0
 Disjoint M G = (r s : ℕ) → (r ≡ s → ⊥) → (q : Monomial) → DivisorAt M G r q → DivisorAt M G s q → ⊥

@@ -18,12 +18,13 @@ use Rattle.checks.proofs.TestLaws.{stable, tests-eq}
 use Rattle.terms.specs.Monomials.{Monomial, rowAt}
 use Rattle.terms.specs.Rows.{rows, padded, asRow}
 use Rattle.checks.specs.Refusals.{Check, refusal}
-use Rattle.terms.specs.TableChecks.{tableChecks, TableAccepted}
+use Rattle.terms.specs.TableChecks.{TableAccepted}
 use Rattle.terms.specs.declared.RowNumber.{RowNumber}
 use Rattle.terms.proofs.RowsLaws.{length-rows, rows-at}
 use Rattle.checks.proofs.RefusalLaws.{accepted, refusal-none, refusal-holds, refusal-passes, passes-first, accepts-head, accepts-right, answered-accepted}
 use Rattle.checks.proofs.RefusalLaws.{answered-refused, numbered-refused}
-use Rattle.terms.proofs.TableLaws.{table-listed}
+use Rattle.distinct.specs.EqualRows.{distinctChecks}
+use Rattle.distinct.proofs.CheckLaws.{distinct-listed}
 use Rattle.division.specs.Scan.{foundRow}
 use Rattle.division.specs.Checks.{OtherLength, lengthCheck}
 use Rattle.inside.specs.FirstDividing.{firstDividing, DividesFirst}
@@ -62,23 +63,23 @@ module _ (n : ℕ) (table query : List ℕ) where
 
   -- ---- the first check that refuses
 
-  module _ (a : refusal (tableChecks n table) ≡ 0) where
+  module _ (a : refusal (distinctChecks n table) ≡ 0) where
     pub refuses-length : OtherLength n query → 5 ≡ refusal (insideChecks n table query)
-    refuses-length h = passes-first (tableChecks n table) (lengthCheck n query ∷ []) 5 a (sym (refusal-holds (lengthCheck n query) [] h))
+    refuses-length h = passes-first (distinctChecks n table) (lengthCheck n query ∷ []) 5 a (sym (refusal-holds (lengthCheck n query) [] h))
 
     pub refuses-none : length query ≡ n → 0 ≡ refusal (insideChecks n table query)
-    refuses-none e = passes-first (tableChecks n table) (lengthCheck n query ∷ []) 0 a
+    refuses-none e = passes-first (distinctChecks n table) (lengthCheck n query ∷ []) 0 a
         (sym (refusal-passes (lengthCheck n query) [] (λ f. f e) ∙ refusal-none))
 
   -- ---- inputs that passed
 
   module _ (e : refusal (insideChecks n table query) ≡ 0) where
     pub inside-passed : TableAccepted n table
-    inside-passed = table-listed n table (lengthCheck n query ∷ []) e
+    inside-passed = distinct-listed n table (lengthCheck n query ∷ []) e
 
     pub inside-length : length query ≡ n
     inside-length = stable (tests-eq (length query) n) (accepts-head (lengthCheck n query) []
-        (accepts-right (tableChecks n table) (lengthCheck n query ∷ []) (accepted (insideChecks n table query) e)))
+        (accepts-right (distinctChecks n table) (lengthCheck n query ∷ []) (accepted (insideChecks n table query) e)))
 
     -- the query is the one row of its bytes
     pub one-row : 0 < length (rows n query)

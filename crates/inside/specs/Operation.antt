@@ -1,6 +1,6 @@
 -- What `inside` promises.
 --
---   insideChecks n table query   the checks in order: 1 to 4 of the table, 5
+--   insideChecks n table query   the checks in order: 1 to 4 and 12 of the table, 5
 --   insideNumber, insideRow   the paper's number of an answer, 0 for none; the row number, if there is one. Beside a refusal none
 --   insideAnswer m row   the answer of that number and row: the row or none, or the refusal
 --   InsidePromise n table query answer   the promise: the number is that of the first check that refuses, the row is the first that
@@ -11,14 +11,14 @@ use mathlib.Core.Option.{Option, none, some}
 use Prim.Native.Nat.{ℕ}
 use Rattle.terms.specs.Rows.{rows}
 use Rattle.checks.specs.Refusals.{Check, refusal, answered, numbered}
-use Rattle.terms.specs.TableChecks.{tableChecks}
+use Rattle.distinct.specs.EqualRows.{distinctChecks}
 use Rattle.division.specs.Checks.{lengthCheck}
 use Rattle.inside.specs.declared.InsideAnswer.{InsideAnswer}
 use Rattle.inside.specs.declared.InsideAnswer.the-variants.{Row, Nothing, Refused}
 use Rattle.inside.specs.FirstDividing.{firstDividing}
 
 abbrev pub insideChecks : ℕ → List ℕ → List ℕ → List Check
-insideChecks n table query = tableChecks n table ++ (lengthCheck n query ∷ [])
+insideChecks n table query = distinctChecks n table ++ (lengthCheck n query ∷ [])
 
 abbrev pub insideNumber : InsideAnswer → ℕ
 insideNumber (Row r) = 0

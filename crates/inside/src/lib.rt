@@ -1,10 +1,10 @@
 // Inside (rule 1): the first given row that divides a query.
+use distinct::distinct_refusal;
 use division::Found;
 use terms::Row;
 use terms::RowNumber;
 use terms::divides;
 use terms::row_at;
-use terms::table_refusal;
 ghost use mathlib.Core.Path.{_≡_};
 ghost use Prim.Native.Nat.{_≤_, _<_};
 ghost use lib.ListN.{length};
@@ -51,7 +51,7 @@ fn first_dividing(n: usize, table: &[u8], query: Row) -> Found
 fn inside_refusal(n: usize, table: &[u8], query: &[u8]) -> u8
     ensures { λ r. ⌜ r ≡ refusal (insideChecks n (now (table .entry)) (now (query .entry))) ⌝ }
 {
-    let refused = table_refusal(n, table);
+    let refused = distinct_refusal(n, table);
     if refused != 0 {
         return refused;
     }

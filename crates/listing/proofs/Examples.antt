@@ -4,6 +4,7 @@
 --   listing-two            a bundle of two tables
 --   listing-empty-input    no bytes: `R 9`
 --   listing-empty-table    a table without rows: `T 0 0 0` and `S 0`
+--   listing-equal-rows     a table with the rows 1 0 and 1 0: `R 12`
 use mathlib.Core.Path.{_≡_, refl}
 use mathlib.Core.List.{List, [], _∷_, _++_}
 use Prim.Native.Nat.{ℕ}
@@ -11,7 +12,8 @@ use Rattle.terms.specs.Monomials.{degree}
 use Rattle.terms.specs.Ideal.{dividesTest, insideTest}
 use Rattle.terms.specs.Rows.{rows, firstRows}
 use Rattle.checks.specs.Refusals.{refusal}
-use Rattle.terms.specs.ExampleTables.{listingD, bundleD}
+use Rattle.terms.specs.ExampleTables.{listingD, bundleD, bundleE}
+use Rattle.distinct.specs.EqualRows.{sameTest, equalRowsTest}
 use Rattle.division.specs.Janet.{tableMarks, marksOf, marksByte, multiplicativeTest, group, sameBeforeTest}
 use Rattle.completion.specs.Blocks.{box, behind, repeated}
 use Rattle.completion.specs.Completed.{completed, completedTest, entersTest, candidate, largest, joined}
@@ -25,7 +27,7 @@ use Rattle.listing.specs.Text.{bundleText}
 -- the output, with every definition that it rests on open to computation
 unfoldable output : List ℕ → List ℕ
 unfolding bundleText tablesText tableText completedText wholeText rowLines tableLine rowLine steadyLine noRoomLine refusalLine fields decimal digitsOf
-    refusal tablesChecks rowCount offsetOf placeOf rows firstRows
+    refusal tablesChecks rowCount offsetOf placeOf rows firstRows equalRowsTest sameTest
     completed completedTest entersTest candidate largest joined box behind repeated insideTest dividesTest
     tableMarks marksOf marksByte multiplicativeTest group sameBeforeTest steadyOf degree
 output b = bundleText b
@@ -54,3 +56,7 @@ listing-empty-input = refl
 pub listing-empty-table : bundleText (1 ∷ 1 ∷ 0 ∷ 0 ∷ 6 ∷ 0 ∷ []) ≡ (84 ∷ 32 ∷ 48 ∷ 32 ∷ 48 ∷ 32 ∷ 48 ∷ 10 ∷ []) ++ (83 ∷ 32 ∷ 48 ∷ 10 ∷ [])
 unfolding output
 listing-empty-table = refl
+
+pub listing-equal-rows : bundleText bundleE ≡ 82 ∷ 32 ∷ 49 ∷ 50 ∷ 10 ∷ []
+unfolding output
+listing-equal-rows = refl

@@ -22,8 +22,8 @@ use Rattle.checks.specs.Tests.{pick}
 use Rattle.checks.proofs.TestLaws.{pick-true, pick-false, tests-lt, tests-eq}
 use Rattle.terms.specs.Rows.{rows}
 use Rattle.checks.specs.Refusals.{refusal}
-use Rattle.terms.specs.TableChecks.{tableChecks}
-use Rattle.terms.proofs.TableLaws.{table-passed}
+use Rattle.distinct.specs.EqualRows.{distinctChecks}
+use Rattle.distinct.proofs.CheckLaws.{distinct-table}
 use Rattle.bundle.specs.Format.{variablesOf, tableCount, bodyOf, tableOf}
 use Rattle.bundle.specs.Checks.{bundleChecks, openChecks}
 use Rattle.bundle.specs.Operation.{LocatePromise}
@@ -75,7 +75,7 @@ refusalLine-bound m h = omega (arith, refusalLine-length m, decimal-length 2 m (
 
 -- its bytes t are the part of the bundle that `part` shows
 pub record Found (b : List ℕ) (j : ℕ) (f : Located) (t : List ℕ) : Type 0 where
-  pub checks : refusal (tableChecks (f .n) t) ≡ 0
+  pub checks : refusal (distinctChecks (f .n) t) ≡ 0
   pub text : tableText (f .n) j (rows (f .n) t) ≡ partText b j
   pub bound : length (tableText (f .n) j (rows (f .n) t)) ≤ textSize
 
@@ -86,12 +86,12 @@ part-found b j {f = f} {t} g y p z s =
     let a = open-accepted b j e in
     let n : f .n ≡ variablesOf b = numbers b j f p e .0 in
     let body : t ≡ bodyOf b j = s ∙ body-shown b j f p ∙ answered-accepted (openChecks b j) (bodyOf b j) [] e in
-    let checks : refusal (tableChecks (f .n) t) ≡ 0 = rw (body, n) (table-passes-checks b (a .0) j (a .1)) in
+    let checks : refusal (distinctChecks (f .n) t) ≡ 0 = rw (body, n) (table-passes-checks b (a .0) j (a .1)) in
     let most = a .0 .layout .frame .sixteen in
     record {
       checks = checks;
       text = rw (body, n) (table-part b j (sym g ∙ y) (a .1));
-      bound = text-bound (f .n) j t (table-passed (f .n) t 0 (sym checks) refl) (omega (arith, a .1));
+      bound = text-bound (f .n) j t (distinct-table (f .n) t checks) (omega (arith, a .1));
     }
 
 -- ---- what is promised of a part

@@ -17,9 +17,10 @@ use Rattle.terms.specs.Monomials.{Table}
 use Rattle.terms.specs.Order.{Ascending}
 use Rattle.terms.specs.Rows.{rows, flat}
 use Rattle.checks.specs.Refusals.{refusal, Accepts}
-use Rattle.terms.specs.TableChecks.{tableChecks, TableAccepted}
+use Rattle.terms.specs.TableChecks.{TableAccepted}
+use Rattle.distinct.specs.EqualRows.{distinctChecks}
 use Rattle.terms.proofs.RowsLaws.{length-flat, rows-flat, rows-size}
-use Rattle.terms.proofs.TableLaws.{table-accepted, table-passed}
+use Rattle.distinct.proofs.CheckLaws.{distinct-table}
 use Rattle.checks.proofs.RefusalLaws.{accepted}
 use Rattle.division.specs.Janet.{tableMarks}
 use Rattle.marking.specs.Operation.{marked}
@@ -77,10 +78,10 @@ pub record Made (n : ℕ) (table : List ℕ) (k : ℕ) (after : List ℕ) : Type
   pub same : rows n (take (k * n) after) ≡ completedOf n table
   pub limited : length (completedOf n table) ≤ 4096
 
-pub made-rows : {n : ℕ} {table buffer : List ℕ} {answer : CompleteAnswer} {k : ℕ} {after : List ℕ} → refusal (tableChecks n table) ≡ 0
+pub made-rows : {n : ℕ} {table buffer : List ℕ} {answer : CompleteAnswer} {k : ℕ} {after : List ℕ} → refusal (distinctChecks n table) ≡ 0
     → CompletePromise n table buffer answer after → answer ≡ Rows k → Made n table k after
 made-rows {n} {table} {buffer} {answer} {k} {after} r q e =
-    let t : TableAccepted n table = table-passed n table 0 (sym r) refl in
+    let t : TableAccepted n table = distinct-table n table r in
     let p : CompletePromise n table buffer (Rows k) after = subst (λ (r : CompleteAnswer). CompletePromise n table buffer r after) e q in
     let H : Table = completedOf n table in
     let z = completedOf-size n table in
@@ -101,12 +102,12 @@ room-whole : (n : ℕ) → 0 < n → n ≤ 6 → 4096 ≤ roomFor n (4096 * 6)
 unfolding roomFor
 room-whole n h l = le-min (omega arith) (le-div-iff-mul-le h .1 (omega arith))
 
-pub made-none : {n : ℕ} {table buffer : List ℕ} {answer : CompleteAnswer} {m : ℕ} {after : List ℕ} → refusal (tableChecks n table) ≡ 0
+pub made-none : {n : ℕ} {table buffer : List ℕ} {answer : CompleteAnswer} {m : ℕ} {after : List ℕ} → refusal (distinctChecks n table) ≡ 0
     → CompletePromise n table buffer answer after → answer ≡ Refused m → length buffer ≡ 4096 * 6 → 4096 < length (completedOf n table)
 made-none {n} {table} {buffer} {answer} {m} {after} r q e s =
-    let a : Accepts (tableChecks n table) = accepted (tableChecks n table) r in
+    let a : Accepts (distinctChecks n table) = accepted (distinctChecks n table) r in
     let p : CompletePromise n table buffer (Refused m) after = subst (λ (r : CompleteAnswer). CompletePromise n table buffer r after) e q in
-    let t = table-accepted n table a in
+    let t = distinct-table n table r in
     by-cases (decLe (length (completedOf n table)) 4096)
     (λ l.
     let room : length (completedOf n table) ≤ roomFor n (length buffer) = rw s (omega (arith, room-whole n (t .some) (t .six))) in

@@ -18,7 +18,7 @@ ghost use Prim.Native.Nat.{_+_, _≤_, _<_};
 ghost use lib.ListN.{length};
 ghost use Rattle.terms.specs.Rows.{rows, monomialOf};
 ghost use Rattle.checks.specs.Refusals.{refusal};
-ghost use Rattle.terms.specs.TableChecks.{tableChecks};
+ghost use Rattle.distinct.specs.EqualRows.{distinctChecks};
 ghost use Rattle.completion.specs.Completed.{completed};
 ghost use Rattle.counts.specs.Counts.{steadyOf};
 ghost use Rattle.text.specs.Decimal.{decimal, space};
@@ -166,11 +166,11 @@ fn put_completed(n: usize, table: &[u8], given: &[u8], j: usize, out: &mut [u8])
 
 // Writes the text of table j from the start, from its given rows: completes them, or says that there is no room.
 fn put_table(n: usize, table: &[u8], j: usize, out: &mut [u8]) -> usize
-    requires { ⌜ (refusal (tableChecks n (now table)) ≡ 0) × (length (tableText n j (rows n (now table))) ≤ length (now out)) ⌝ }
+    requires { ⌜ (refusal (distinctChecks n (now table)) ≡ 0) × (length (tableText n j (rows n (now table))) ≤ length (now out)) ⌝ }
     ensures { λ r. ⌜ Wrote (now (out .entry)) 0 (tableText n j (rows n (now (table .entry)))) r (now (out .exit)) ⌝ }
 {
     let mut made = [0u8; COMPLETED_SIZE];
-    match completing::complete(n, table, &mut made) {
+    match completing::complete_checked(n, table, &mut made) {
         CompleteAnswer::Rows(count) => {
             let size = count * n;
             let completed: &[u8] = &made[..size];

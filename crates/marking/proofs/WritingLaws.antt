@@ -3,11 +3,11 @@
 --   from, from-last, from-step, from-all, length-from   a buffer that is written from its last row on to the first
 --   none-marked            without rows nothing is written
 --   Written                a buffer in which the rows listed from a place on are marked
---   last-listed, listed-marks, before-listed   the marks of the row at the last place, of the one before a place, and that it is not after it
+--   last-listed, listed-marks, before-listed   the marks of the row at the last place, of the one before a place, and that it precedes it
 --   written-last, written-step, written-all    the turns of `mark_listed`
 use mathlib.Core.Path.{_≡_, refl, sym, ap, _∙_, subst}
 use mathlib.Core.List.{List, [], _∷_, _++_}
-use mathlib.Core.Logic.{inl, ⊎-elim, by-cases}
+use mathlib.Core.Logic.{⊎-elim, by-cases}
 use Prim.Native.Nat.{ℕ, suc, _+_, _-_, _^_, _≤_, _<_}
 use native.Mathlib.Nat.{eq-or-lt-of-le}
 use native.Mathlib.Decide.{decLe, decLt, ℕ-discrete}
@@ -15,16 +15,17 @@ use native.Mathlib.Omega.{arith}
 use lib.ListN.{length, take, drop, getD, set, length-set, length-append, length-drop, drop-of-length-le}
 use lib.Seq.{drop-cons, set-split, set-at, take-suc, append-snoc, length-take-le, take-set-le, drop-set-lt, getD-set-same, getD-set-other, getD-append-add}
 use lib.Seq.{getD-drop, ext-getD}
-use Rattle.terms.specs.Monomials.{Monomial, Table, _∈_, rowAt}
-use Rattle.terms.specs.Order.{Precedes, NotAfter}
+use Rattle.terms.specs.Monomials.{Monomial, Table, _∈_, rowAt, Distinct}
+use Rattle.terms.specs.Order.{Precedes}
 use Rattle.terms.proofs.RowsLaws.{member-at, member-index}
 use Rattle.division.specs.Janet.{marksOf, tableMarks}
-use Rattle.ordering.specs.Ordering.{listed, InOrder}
+use Rattle.ordering.specs.Listing.{listed, Listing}
+use Rattle.distinct.proofs.EqualLaws.{distinct-precedes}
 use Rattle.marking.specs.Operation.{marked}
 use Rattle.marking.specs.NextRow.{NextMarks}
 use Rattle.division.proofs.MarkByteLaws.{front-marks, length-tableMarks}
 use Rattle.division.proofs.SuccessorLaws.{marks-highest}
-use Rattle.terms.proofs.OrderLaws.{not-after-none}
+use Rattle.terms.proofs.OrderLaws.{precedes-irreflexive, precedes-trans}
 use Rattle.marking.proofs.NextRowLaws.{next-marks}
 
 -- ---- mark_ascending
@@ -79,15 +80,21 @@ pub record Written (n : ℕ) (G : Table) (order before : List ℕ) (k : ℕ) (bu
   pub marks : (m : ℕ) → k ≤ m → m < length G → getD buffer (getD order m 0) 0 ≡ marksOf n G (listed G order m)
   pub rest : (p : ℕ) → length G ≤ p → getD buffer p 0 ≡ getD before p 0
 
-module _ (n : ℕ) (G : Table) (order : List ℕ) (s : InOrder G (length G) order) where
+module _ (n : ℕ) (G : Table) (order : List ℕ) (s : Listing G order) (distinct : Distinct G) where
   at-place : (v : Monomial) → v ∈ G → (m : ℕ) × (m < length G) × (listed G order m ≡ v)
   at-place v i =
       let r = member-index G [] v i in
       let m = s .places (r .0) (r .1) in
       (m .0, m .1, ap (rowAt G) (m .2) ∙ r .2)
 
-  upto : (l m : ℕ) → l ≤ m → m < length G → NotAfter (listed G order l) (listed G order m)
-  upto l m h b = ⊎-elim (λ e. inl (ap (listed G order) e)) (λ o. s .ordered l m o b) (eq-or-lt-of-le h)
+  -- no row comes behind a later one
+  behind : (l m : ℕ) → l ≤ m → m < length G → (v : Monomial) → listed G order l ≡ v → Precedes (listed G order m) v → ⊥
+  behind l m h b v e p =
+      let q : Precedes (listed G order m) (listed G order l) = subst (λ (x : Monomial). Precedes (listed G order m) x) (sym e) p in
+      ⊎-elim
+      (λ z. precedes-irreflexive (listed G order m) (subst (λ (k : ℕ). Precedes (listed G order m) (listed G order k)) z q))
+      (λ o. precedes-irreflexive (listed G order m) (precedes-trans q (distinct-precedes G order s distinct l m o b)))
+      (eq-or-lt-of-le h)
 
   pub listed-member : (m : ℕ) → m < length G → listed G order m ∈ G
   listed-member m l = member-at G [] (getD order m 0) (s .numbers m l)
@@ -97,13 +104,11 @@ module _ (n : ℕ) (G : Table) (order : List ℕ) (s : InOrder G (length G) orde
   last-listed k v e h = omega (arith, marks-highest n G (listed G order k) none)
     where
       none : (v : Monomial) → v ∈ G → Precedes (listed G order k) v → ⊥
-      none v i p =
-          let m = at-place v i in
-          not-after-none (upto (m .0) k (omega (arith, m .1)) (omega arith)) (subst (λ (x : Monomial). Precedes (listed G order k) x) (sym (m .2)) p)
+      none v i p = let m = at-place v i in behind (m .0) k (omega (arith, m .1)) (omega arith) v (m .2) p
 
   module _ (k : ℕ) (p : 0 < k) (l : k < length G) where
-    pub before-listed : NotAfter (listed G order (k - 1)) (listed G order k)
-    before-listed = upto (k - 1) k (omega arith) l
+    pub before-listed : Precedes (listed G order (k - 1)) (listed G order k)
+    before-listed = distinct-precedes G order s distinct (k - 1) k (omega arith) l
 
     -- none stands between two that are listed one after the other
     pub listed-marks : (m r : ℕ) → m ≡ marksOf n G (listed G order k) → NextMarks n (listed G order (k - 1)) (listed G order k) m r
@@ -115,13 +120,12 @@ module _ (n : ℕ) (G : Table) (order : List ℕ) (s : InOrder G (length G) orde
         none v i a b =
             let m = at-place v i in
             by-cases (decLt (m .0) k)
-            (λ h. not-after-none (upto (m .0) (k - 1) (omega arith) (omega arith))
-            (subst (λ (x : Monomial). Precedes (listed G order (k - 1)) x) (sym (m .2)) a))
-            (λ g. not-after-none (upto k (m .0) (omega arith) (m .1)) (subst (λ (x : Monomial). Precedes x (listed G order k)) (sym (m .2)) b))
+            (λ h. behind (m .0) (k - 1) (omega arith) (omega arith) v (m .2) a)
+            (λ g. behind k (m .0) (omega arith) (m .1) (listed G order k) refl (subst (λ (x : Monomial). Precedes x (listed G order k)) (sym (m .2)) b))
 
-    pub written-step : (before b : List ℕ) (v : ℕ) → length G ≤ length before → v ≡ marksOf n G (listed G order (k - 1)) → Written n G order before k b
-        → Written n G order before (k - 1) (set b (getD order (k - 1) 0) v)
-    written-step before b v h e w = record {
+    pub written-step : (before b : List ℕ) (place v : ℕ) → place ≡ getD order (k - 1) 0 → length G ≤ length before → v ≡ marksOf n G (listed G order (k - 1))
+        → Written n G order before k b → Written n G order before (k - 1) (set b place v)
+    written-step before b place v q h e w = rw q (record {
       size = length-set b (getD order (k - 1) 0) v ∙ w .size;
       marks = λ m c d. by-cases (ℕ-discrete (getD order m 0) (getD order (k - 1) 0))
           (λ f.
@@ -130,21 +134,21 @@ module _ (n : ℕ) (G : Table) (order : List ℕ) (s : InOrder G (length G) orde
           ∙ e ∙ ap (λ (x : ℕ). marksOf n G (rowAt G x)) (sym f))
           (λ g. getD-set-other b (getD order (k - 1) 0) (getD order m 0) v 0 g ∙ w .marks m (later m c g) d);
       rest = λ i c. getD-set-other b (getD order (k - 1) 0) i v 0 (λ f. omega (arith, f, s .numbers (k - 1) (omega arith))) ∙ w .rest i c;
-    }
+    })
       where
         later : (m : ℕ) → k - 1 ≤ m → (getD order m 0 ≡ getD order (k - 1) 0 → ⊥) → k ≤ m
         later m c g = by-cases (decLe k m) (λ h. h) (λ h. let e : m ≡ k - 1 = omega arith in absurd (g (ap (λ (x : ℕ). getD order x 0) e)))
 
-  pub written-last : (b : List ℕ) (k v : ℕ) → suc k ≡ length G → length G ≤ length b → v ≡ marksOf n G (listed G order k)
-      → Written n G order (set b (getD order k 0) v) k (set b (getD order k 0) v)
-  written-last b k v e h f = record {
+  pub written-last : (b : List ℕ) (k place v : ℕ) → place ≡ getD order k 0 → suc k ≡ length G → length G ≤ length b → v ≡ marksOf n G (listed G order k)
+      → Written n G order (set b place v) k (set b place v)
+  written-last b k place v q e h f = rw q (record {
     size = refl;
     marks = λ m c d.
         let x : k ≡ m = omega arith in
         subst (λ (y : ℕ). getD (set b (getD order k 0) v) (getD order y 0) 0 ≡ marksOf n G (listed G order y)) x
         (getD-set-same b (getD order k 0) v 0 (omega (arith, s .numbers k (omega arith))) ∙ f);
     rest = λ p c. refl;
-  }
+  })
 
   -- all rows are listed, so all are marked
   pub written-all : (b c : List ℕ) (k x v : ℕ) → k ≡ 0 → x < length G → length G ≤ length b → Written n G order (set b x v) k c → c ≡ marked n G b

@@ -1,7 +1,7 @@
 -- The operation marks (rule 2).
 --
 --   BufferShort n table size   8: the buffer, of that size, is shorter than the rows
---   marksChecks n table size   the checks in order: 1 to 4 of the table, 8
+--   marksChecks n table size   the checks in order: 1 to 4 and 12 of the table, 8
 --   Markable n G size     what is known once they pass
 --   marked n G buffer     the buffer with the marks of G's rows at its front; the bytes behind stay
 --   marksNumber      the paper's number of an answer, 0 for none
@@ -18,7 +18,7 @@ use Rattle.checks.proofs.TestLaws.{tests-lt}
 use Rattle.terms.specs.Monomials.{Table}
 use Rattle.terms.specs.Rows.{rows}
 use Rattle.checks.specs.Refusals.{Check, refusal, check, answered, numbered}
-use Rattle.terms.specs.TableChecks.{tableChecks}
+use Rattle.distinct.specs.EqualRows.{distinctChecks}
 use Rattle.division.specs.Janet.{tableMarks}
 use Rattle.marking.specs.declared.MarksAnswer.{MarksAnswer}
 use Rattle.marking.specs.declared.MarksAnswer.the-variants.{Done, Refused}
@@ -35,7 +35,7 @@ abbrev pub bufferCheck : ℕ → List ℕ → ℕ → Check
 bufferCheck n table size = check 8 (lit< tt) (tests-bufferShort n table size)
 
 abbrev pub marksChecks : ℕ → List ℕ → ℕ → List Check
-marksChecks n table size = tableChecks n table ++ (bufferCheck n table size ∷ [])
+marksChecks n table size = distinctChecks n table ++ (bufferCheck n table size ∷ [])
 
 -- what is known once they pass, of a table G and a buffer of that size
 pub record Markable (n : ℕ) (G : Table) (size : ℕ) : Type 0 where

@@ -54,22 +54,14 @@ fn three_tables() {
     show(bundle, 3);
 }
 
-// Six variables, 41 rows of zeros in table 0, and table 1 at 256: only the high byte of its offset is not 0.
+// Six variables, 41 rows in table 0, whose bytes are the digits 0, 1 and 2, and table 1 at 256: only the high byte of its offset is not 0.
 fn far_table() {
-    let mut bundle = [0u8; 256 + 6];
-    bundle[0] = 6;
-    bundle[1] = 2;
-    bundle[2] = 41;
-    bundle[4] = 10;
-    bundle[6] = 1;
-    bundle[9] = 1;
-    bundle[256] = 1;
-    bundle[257] = 2;
-    bundle[258] = 3;
-    bundle[259] = 4;
-    bundle[260] = 5;
-    bundle[261] = 6;
-    show(&bundle, 1);
+    let bundle = b"\x06\x02\x29\x00\x0a\x00\x01\x00\x00\x01\
+        000000000001000002000010000011000012000020000021000022000100000101000102000110000111000112000120000121000122000200000201\
+        000202000210000211000212000220000221000222001000001001001002001010001011001012001020001021001022001100001101001102001110\
+        001111\
+        \x01\x02\x03\x04\x05\x06";
+    show(bundle, 1);
 }
 
 // Sixteen empty tables at 66, the letter B; seventeen at 70, the letter F, are refused by 9.
@@ -123,7 +115,7 @@ fn row_counts() {
     show(&bundle, 0);
     show(b"\x01\x01\x01\x10\x06\x00", 0);
     show(b"\x01\x01\x01\x10\x07\x00", 0);
-    // 4,096 rows: one byte more, 11; all there and no table 1, 5; with a body that passes the end, 11; with a wrong offset, 10
+    // 4,096 rows: one byte more, 11; all there, but equal, and no table 1, 12; with a body that passes the end, 11; with a wrong offset, 10
     bundle[2] = 0;
     show(&bundle, 0);
     show(&bundle[..6 + 4096], 1);
@@ -171,6 +163,24 @@ fn entries() {
     show(b"\x01\x01\x02\x00\x06\x00\x32\x33", 3);
 }
 
+// Bundles that 12 refuses, and some at the edge.
+fn equal_rows() {
+    // next to each other; far apart; in table 1, with table 0 asked for; and there is no such table
+    show(b"\x02\x01\x02\x00\x06\x00\x01\x00\x01\x00", 0);
+    show(b"\x01\x01\x04\x00\x06\x00\x07\x05\x06\x07", 0);
+    show(
+        b"\x01\x02\x01\x00\x0a\x00\x03\x00\x0b\x00\x05\x09\x08\x09",
+        0,
+    );
+    show(b"\x01\x01\x02\x00\x06\x00\x07\x07", 3);
+    // and an entry above 50 in table 1, 4; and a byte remains, 11
+    show(b"\x01\x02\x02\x00\x0a\x00\x01\x00\x0c\x00\x07\x07\x33", 0);
+    show(b"\x01\x01\x02\x00\x06\x00\x07\x07\x07", 0);
+    // the same row in two tables; rows that only begin or end alike
+    show(b"\x01\x02\x01\x00\x0a\x00\x01\x00\x0b\x00\x07\x07", 1);
+    show(b"\x02\x01\x03\x00\x06\x00\x01\x02\x01\x03\x00\x02", 0);
+}
+
 // The last of two tables, and one more, which 5 refuses.
 fn table_numbers() {
     let bundle = b"\x01\x02\x01\x00\x0a\x00\x01\x00\x0b\x00\x05\x06";
@@ -190,5 +200,6 @@ fn main() {
     offsets();
     ends();
     entries();
+    equal_rows();
     table_numbers();
 }

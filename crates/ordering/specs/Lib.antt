@@ -1,2 +1,3 @@
--- Rows listed in their order.
-pub mod Ordering
+-- Rows listed in ascending order, and the passes that list them.
+pub mod Listing
+pub mod Passes

@@ -11,16 +11,26 @@ use native.Mathlib.Omega.{arith}
 use lib.ListN.{length, drop}
 use Rattle.checks.specs.Refusals.{refusal}
 use Rattle.checks.proofs.TestLaws.{false-tests, tests-false}
-use Rattle.terms.specs.Monomials.{Table, OfSize}
+use Rattle.terms.specs.Monomials.{Table, OfSize, Distinct}
 use Rattle.terms.specs.TableChecks.{EntryAbove50, tests-entryAbove50}
 use Rattle.terms.proofs.RowsLaws.{rows-size}
-use Rattle.bundle.specs.Format.{variablesOf, tableCount, headerLength, bodyOf, tablesFrom, tablesOf, Bytes, countsOf, bodiesOf, bundleOf, placeOf}
+use Rattle.bundle.specs.Format.{variablesOf, tableCount, headerLength, bodyOf, tableOf, tablesFrom, tablesOf, Bytes, countsOf, bodiesOf, bundleOf, placeOf}
 use Rattle.bundle.specs.Checks.{bundleChecks, LargeEntry, tests-largeEntry}
 use Rattle.bundle.proofs.AcceptedLaws.{Laid, Accepted, accepted-bundle, entries-here, length-table}
 use Rattle.bundle.proofs.BytesLaws.{length-tablesFrom, read-bodies, bundle-again}
 use Rattle.packing.specs.GivenTables.{givenBundle}
 use Rattle.packing.proofs.CheckLaws.{Writable}
 use Rattle.packing.proofs.GivenLaws.{given-again, total-bodies, length-counts}
+
+-- what holds of each table by number holds of each
+read-each : (b : List ℕ) (P : Table → Type 0) → ((j : ℕ) → j < tableCount b → P (tableOf b j)) → (m j : ℕ) → j + m ≡ tableCount b
+    → (G : Table) → List·Memᴰ G (tablesFrom b j m) → P G
+unfolding tablesFrom
+read-each b P f zero j e G i = absurd (List·Memᴰ·not-nil i)
+read-each b P f (suc m) j e G i = ⊎-elim
+    (λ q. subst P (sym q) (f j (omega arith)))
+    (read-each b P f m (suc j) (omega arith) G)
+    (List·Memᴰ·cases-cons i)
 
 -- the tables of a bundle have rows of n exponents
 pub sized-read : (b : List ℕ) (m j : ℕ) (G : Table) → List·Memᴰ G (tablesFrom b j m) → OfSize (variablesOf b) G
@@ -74,6 +84,8 @@ module _ (b : List ℕ) (bytes : Bytes b) (e : refusal (bundleChecks b) ≡ 0) w
           limited = counts-limited b (a .layout) (tableCount b) 0 (omega arith);
         };
         small = small-bodies;
+        distinct = rw (given-again (variablesOf b) tables (sized-read b (tableCount b) 0))
+            (read-each b Distinct (a .distinct) (tableCount b) 0 (omega arith));
         fits = omega arith;
         short = omega (arith, f .short);
       }

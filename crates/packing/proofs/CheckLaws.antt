@@ -4,7 +4,7 @@
 --   demanded-fits          the bytes that the sum of the counts demands, before any count is known to be small
 --   shaped-size            their bytes are at most 16 times 4,096 rows of 6
 --   shape-one, shape-nine, shape-two, shape-three, shape-passes   the first of these checks that refuses, and that none does
---   write-four, write-eight, write-passes   what 4 and 8 decide behind them. The size that the code adds up is the bundle's length
+--   write-four, write-twelve, write-eight, write-passes   what 4, 12 and 8 decide behind them. The size that the code adds up is the bundle's length
 --   Writable, writable, writable-passes   what is known of inputs that the writer accepts, and that this is enough
 use mathlib.Core.Path.{_≡_, refl, sym, _∙_}
 use mathlib.Core.Bool.{true, false}
@@ -21,9 +21,11 @@ use Rattle.checks.proofs.TestLaws.{stable, true-tests, false-tests, tests-false
 use Rattle.checks.proofs.RefusalLaws.{accepted, accepts-nil, accepts-cons, accepts-head, accepts-tail, accepts-left, accepts-right, accepts-refusal}
 use Rattle.checks.proofs.RefusalLaws.{refusal-holds, refusal-passes, refusal-none, passes-first}
 use Rattle.terms.specs.TableChecks.{NotOneToSix, EntryAbove50, tests-notOneToSix, tests-entryAbove50}
-use Rattle.packing.specs.GivenTables.{totalRows, givenBundle}
+use Rattle.terms.specs.Monomials.{Table, Distinct}
+use Rattle.distinct.specs.EqualRows.{equalRowsTest}
+use Rattle.packing.specs.GivenTables.{totalRows, givenTables, givenBundle}
 use Rattle.packing.specs.Operation.{NotOneToSixteen, WrongLength, CountAbove4096, NoRoom, tests-notOneToSixteen, tests-wrongLength}
-use Rattle.packing.specs.Operation.{tests-countAbove4096, shapeChecks, contentChecks, writeChecks}
+use Rattle.packing.specs.Operation.{tests-countAbove4096, GivenEqualRows, tests-givenEqualRows, shapeChecks, contentChecks, writeChecks}
 use Rattle.packing.proofs.GivenLaws.{length-givenBundle}
 
 -- ---- 1, 9, 2, 3
@@ -111,7 +113,7 @@ module _ (n : ℕ) (counts tables : List ℕ) where
             let none : CountAbove4096 counts → ⊥ = false-tests (tests-countAbove4096 counts) e in
             sym (refusal-passes _ _ not-one ∙ refusal-passes _ _ not-nine ∙ refusal-passes _ _ not-two ∙ refusal-passes _ _ none ∙ refusal-none)
 
--- ---- 4 and 8
+-- ---- 4, 12 and 8
 
 module _ (n : ℕ) (counts tables : List ℕ) (room : ℕ) (e : refusal (shapeChecks n counts tables) ≡ 0) where
   pub write-four : any (λ x. ltb 50 x) tables ≡ true → 4 ≡ refusal (writeChecks n counts tables room)
@@ -123,26 +125,37 @@ module _ (n : ℕ) (counts tables : List ℕ) (room : ℕ) (e : refusal (shapeCh
     small : EntryAbove50 tables → ⊥
     small = false-tests (tests-entryAbove50 tables) f
 
-    size : length (givenBundle n counts tables) ≡ 2 + 4 * length counts + length tables
-    size = length-givenBundle n counts tables (shaped n counts tables e .whole)
+    pub write-twelve : any equalRowsTest (givenTables n counts tables) ≡ true → 12 ≡ refusal (writeChecks n counts tables room)
+    write-twelve t =
+        let h : GivenEqualRows n counts tables = true-tests (tests-givenEqualRows n counts tables) t in
+        passes-first (shapeChecks n counts tables) (contentChecks n counts tables room) 12 e (sym (refusal-passes _ _ small ∙ refusal-holds _ _ h))
 
-    pub write-eight : NoRoom (2 + 4 * length counts + length tables) room → 8 ≡ refusal (writeChecks n counts tables room)
-    write-eight h =
-        let h′ : NoRoom (length (givenBundle n counts tables)) room = rw size h in
-        passes-first (shapeChecks n counts tables) (contentChecks n counts tables room) 8 e (sym (refusal-passes _ _ small ∙ refusal-holds _ _ h′))
+    module _ (g : any equalRowsTest (givenTables n counts tables) ≡ false) where
+      distinct : GivenEqualRows n counts tables → ⊥
+      distinct = false-tests (tests-givenEqualRows n counts tables) g
 
-    pub write-passes : 2 + 4 * length counts + length tables ≤ room → 2 + 4 * length counts + length tables ≤ 65535
-        → 0 ≡ refusal (writeChecks n counts tables room)
-    write-passes a b =
-        let none : NoRoom (length (givenBundle n counts tables)) room → ⊥ = λ h. ⊎-elim (λ x. omega (arith, size)) (λ x. omega (arith, size)) h in
-        passes-first (shapeChecks n counts tables) (contentChecks n counts tables room) 0 e
-        (sym (refusal-passes _ _ small ∙ refusal-passes _ _ none ∙ refusal-none))
+      size : length (givenBundle n counts tables) ≡ 2 + 4 * length counts + length tables
+      size = length-givenBundle n counts tables (shaped n counts tables e .whole)
+
+      pub write-eight : NoRoom (2 + 4 * length counts + length tables) room → 8 ≡ refusal (writeChecks n counts tables room)
+      write-eight h =
+          let h′ : NoRoom (length (givenBundle n counts tables)) room = rw size h in
+          passes-first (shapeChecks n counts tables) (contentChecks n counts tables room) 8 e
+          (sym (refusal-passes _ _ small ∙ refusal-passes _ _ distinct ∙ refusal-holds _ _ h′))
+
+      pub write-passes : 2 + 4 * length counts + length tables ≤ room → 2 + 4 * length counts + length tables ≤ 65535
+          → 0 ≡ refusal (writeChecks n counts tables room)
+      write-passes a b =
+          let none : NoRoom (length (givenBundle n counts tables)) room → ⊥ = λ h. ⊎-elim (λ x. omega (arith, size)) (λ x. omega (arith, size)) h in
+          passes-first (shapeChecks n counts tables) (contentChecks n counts tables room) 0 e
+          (sym (refusal-passes _ _ small ∙ refusal-passes _ _ distinct ∙ refusal-passes _ _ none ∙ refusal-none))
 
 -- ---- all of them
 
 pub record Writable (n : ℕ) (counts tables : List ℕ) (room : ℕ) : Type 0 where
   pub shape : Shaped n counts tables
   pub small : EntryAbove50 tables → ⊥
+  pub distinct : (G : Table) → List·Memᴰ G (givenTables n counts tables) → Distinct G
   pub fits : length (givenBundle n counts tables) ≤ room
   pub short : length (givenBundle n counts tables) ≤ 65535
 
@@ -150,11 +163,13 @@ pub writable : (n : ℕ) (counts tables : List ℕ) (room : ℕ) → refusal (wr
 writable n counts tables room e =
     let all = accepted (writeChecks n counts tables room) e in
     let from4 = accepts-right (shapeChecks n counts tables) (contentChecks n counts tables room) all in
-    let from8 = accepts-tail _ _ from4 in
+    let from12 = accepts-tail _ _ from4 in
+    let from8 = accepts-tail _ _ from12 in
     let size = length (givenBundle n counts tables) in
     record {
       shape = shaped-accepts n counts tables (accepts-left (shapeChecks n counts tables) (contentChecks n counts tables room) all);
       small = accepts-head _ _ from4;
+      distinct = λ G m r. accepts-head _ _ from12 (G, m, r);
       fits = stable (tests-le size room) (λ g. accepts-head _ _ from8 (inl (omega (arith, g))));
       short = stable (tests-le size 65535) (λ g. accepts-head _ _ from8 (inr (omega (arith, g))));
     }
@@ -163,5 +178,6 @@ pub writable-passes : (n : ℕ) (counts tables : List ℕ) (room : ℕ) → Writ
 writable-passes n counts tables room w =
     let s = accepts-refusal (shapeChecks n counts tables) (accepts-shape n counts tables (w .shape)) in
     let none = tests-false (tests-entryAbove50 tables) (w .small) in
+    let apart = tests-false (tests-givenEqualRows n counts tables) (λ r. w .distinct (r .0) (r .1) (r .2)) in
     let l = length-givenBundle n counts tables (w .shape .whole) in
-    sym (write-passes n counts tables room s (sym none) (omega (arith, w .fits)) (omega (arith, w .short)))
+    sym (write-passes n counts tables room s (sym none) (sym apart) (omega (arith, w .fits)) (omega (arith, w .short)))

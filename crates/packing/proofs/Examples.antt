@@ -7,7 +7,8 @@ use lib.ListN.{length, drop, replicate, drop-of-length-le}
 use Rattle.terms.specs.Rows.{firstRows, flat}
 use Rattle.checks.specs.Refusals.{refusal, answered}
 use Rattle.checks.proofs.RefusalLaws.{answered-accepted}
-use Rattle.terms.specs.ExampleTables.{bytesD, bundleD}
+use Rattle.terms.specs.ExampleTables.{bytesD, bundleD, bytesE}
+use Rattle.distinct.specs.EqualRows.{sameTest, equalRowsTest}
 use Rattle.bundle.specs.Format.{countsOf, entriesOf, bodiesOf, bundleOf}
 use Rattle.packing.specs.GivenTables.{totalRows, givenTables, givenBundle}
 use Rattle.packing.specs.Operation.{writeChecks, writeAnswer, writtenBuffer, WritePromise}
@@ -20,7 +21,7 @@ listing-packed = refl
 
 -- the number with which inputs are refused, 0 where they are written
 unfoldable answer : ℕ → List ℕ → List ℕ → ℕ → ℕ
-unfolding refusal totalRows bundleOf countsOf entriesOf bodiesOf givenTables firstRows flat
+unfolding refusal totalRows bundleOf countsOf entriesOf bodiesOf givenTables firstRows flat equalRowsTest sameTest
 answer n counts tables room = refusal (writeChecks n counts tables room)
 
 ten-bytes : answer 2 (2 ∷ []) (2 ∷ 1 ∷ 0 ∷ 2 ∷ []) 10 ≡ 0
@@ -51,6 +52,21 @@ large-entry : answer 1 (1 ∷ []) (51 ∷ []) 0 ≡ 4
 unfolding answer
 large-entry = refl
 
+-- rows 7 and 7 in the second table, and no room
+equal-rows : answer 1 (1 ∷ 3 ∷ []) (7 ∷ 7 ∷ 0 ∷ 7 ∷ []) 0 ≡ 12
+unfolding answer
+equal-rows = refl
+
+-- an entry 51, and rows 1 and 1
+entry-first : answer 1 (2 ∷ 1 ∷ []) (1 ∷ 1 ∷ 51 ∷ []) 99 ≡ 4
+unfolding answer
+entry-first = refl
+
+-- the same row in two tables
+same-row-twice : answer 1 (1 ∷ 1 ∷ []) (7 ∷ 7 ∷ []) 99 ≡ 0
+unfolding answer
+same-row-twice = refl
+
 -- 4,097 rows with all their bytes, and an entry 51 among them
 many-rows : answer 1 (4097 ∷ []) (replicate {A = ℕ} 4097 51) 9 ≡ 3
 unfolding answer
@@ -76,11 +92,11 @@ abbrev lengthD : ℕ → ℕ
 lengthD room = answered (writeChecks 2 (2 ∷ []) bytesD room) (length (givenBundle 2 (2 ∷ []) bytesD)) 0
 
 ten : (numberD 10 ≡ 0) × (lengthD 10 ≡ 10)
-unfolding answered totalRows bundleOf countsOf entriesOf bodiesOf givenTables firstRows flat
+unfolding answered totalRows bundleOf countsOf entriesOf bodiesOf givenTables firstRows flat equalRowsTest sameTest
 ten = (refl, refl)
 
 nine : (numberD 9 ≡ 8) × (lengthD 9 ≡ 0)
-unfolding answered totalRows bundleOf countsOf entriesOf bodiesOf givenTables firstRows flat
+unfolding answered totalRows bundleOf countsOf entriesOf bodiesOf givenTables firstRows flat equalRowsTest sameTest
 nine = (refl, refl)
 
 pub example-D-written : (buffer : List ℕ) {answer : WriteAnswer} {after : List ℕ} → length buffer ≡ 10 → WritePromise 2 (2 ∷ []) bytesD buffer answer after
@@ -97,3 +113,8 @@ example-D-written buffer e p =
 pub example-D-short : (buffer : List ℕ) {answer : WriteAnswer} {after : List ℕ} → length buffer ≡ 9 → WritePromise 2 (2 ∷ []) bytesD buffer answer after
     → answer ≡ Refused 8
 example-D-short buffer e p = p .settled ∙ ap₂ writeAnswer (p .number ∙ ap numberD e ∙ nine .0) (p .size ∙ ap lengthD e ∙ nine .1)
+
+-- E's rows: 12 whatever the room
+pub example-E : (room : ℕ) → refusal (writeChecks 2 (2 ∷ []) bytesE room) ≡ 12
+unfolding refusal totalRows givenTables firstRows equalRowsTest sameTest
+example-E room = refl

@@ -5,4 +5,5 @@ pub mod OperationLaws
 pub mod RoundLaws
 pub mod AgainLaws
 pub mod LoopLaws
+pub mod SearchLaws
 pub mod Examples

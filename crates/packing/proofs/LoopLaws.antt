@@ -1,6 +1,7 @@
 -- What the writer's loops have done so far, and the whole bundle from its parts.
 --
 --   large-here, large-later   a search for a count above 4,096: it ends here, or goes on behind
+--   total-next             the rows from table j on
 --   Summed, summed-none, summed-more, summed-all   the sum of the first j counts. Each is below 65,536, so the sum is bounded
 --   body-fits              the bytes of a table whose row count is a 16-bit number
 --   Entered, entered-none, entered-more, entered-all   the entries of the first j tables are written, and the next body's place is known
@@ -35,7 +36,7 @@ large-later counts j h l = rw (add-one, drop-cons counts j 0 h, le-ltb _ _ l)
 
 -- ---- the sum
 
-total-next : (counts : List ℕ) (j : ℕ) → j < length counts → totalRows (drop j counts) ≡ getD counts j 0 + totalRows (drop (j + 1) counts)
+pub total-next : (counts : List ℕ) (j : ℕ) → j < length counts → totalRows (drop j counts) ≡ getD counts j 0 + totalRows (drop (j + 1) counts)
 unfolding totalRows
 total-next counts j h = rw (add-one, drop-cons counts j 0 h)
 

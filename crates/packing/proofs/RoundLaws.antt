@@ -15,10 +15,10 @@ use lib.ListN.{length, getD, drop, length-append}
 use lib.Seq.{drop-drop, take-at, drop-at, getD-drop}
 use Rattle.checks.specs.Refusals.{refusal}
 use Rattle.checks.proofs.TestLaws.{stable, false-tests, tests-le, tests-false}
-use Rattle.terms.specs.Monomials.{Table, OfSize}
+use Rattle.terms.specs.Monomials.{Table, OfSize, Distinct}
 use Rattle.terms.specs.Rows.{flat}
 use Rattle.terms.specs.TableChecks.{EntryAbove50, tests-entryAbove50}
-use Rattle.terms.proofs.RowsLaws.{length-flat, rows-flat}
+use Rattle.terms.proofs.RowsLaws.{member-at, length-flat, rows-flat}
 use Rattle.bundle.specs.Format.{byteAt, number16, variablesOf, tableCount, rowCount, offsetOf, placeOf, bodyOf, tableOf}
 use Rattle.bundle.specs.Format.{tablesFrom, tablesOf, low, high, countsOf, entriesOf, bodiesOf, bundleOf}
 use Rattle.bundle.specs.Checks.{LargeEntry, bundleChecks, tests-largeEntry}
@@ -118,6 +118,7 @@ pub record Packable (n : ℕ) (Ts : List Table) : Type 0 where
   pub sized : (G : Table) → List·Memᴰ G Ts → OfSize n G
   pub limited : (G : Table) → List·Memᴰ G Ts → length G ≤ 4096
   pub small : EntryAbove50 (bodiesOf Ts) → ⊥
+  pub distinct : (G : Table) → List·Memᴰ G Ts → Distinct G
   pub short : length (bundleOf n Ts) ≤ 65535
 
 -- the reader accepts b, and reads n and these tables
@@ -128,11 +129,13 @@ pub record Opens (b : List ℕ) (n : ℕ) (Ts : List Table) : Type 0 where
   pub tables : tablesOf b ≡ Ts
 
 -- table j of it is the j-th
-pub opens-at : {b : List ℕ} {n : ℕ} {Ts : List Table} → Opens b n Ts → (j : ℕ) → j < length Ts → tableOf b j ≡ getD Ts j []
-opens-at {b} o j h =
-    let l : j < tableCount b = omega (arith, o .count) in
+read-at : (b : List ℕ) (m : ℕ) (Ts : List Table) → tablesFrom b 0 m ≡ Ts → (j : ℕ) → j < m → tableOf b j ≡ getD Ts j []
+read-at b m Ts e j h =
     let z : 0 + j ≡ j = omega arith in
-    ap (tableOf b) (sym z) ∙ sym (tablesFrom-at b 0 (tableCount b) j l) ∙ ap (λ (Ts : List Table). getD Ts j []) (o .tables)
+    ap (tableOf b) (sym z) ∙ sym (tablesFrom-at b 0 m j h) ∙ ap (λ (Ts : List Table). getD Ts j []) e
+
+pub opens-at : {b : List ℕ} {n : ℕ} {Ts : List Table} → Opens b n Ts → (j : ℕ) → j < length Ts → tableOf b j ≡ getD Ts j []
+opens-at {b} {Ts = Ts} o j h = read-at b (tableCount b) Ts (o .tables) j (omega (arith, o .count))
 
 -- its row count and its body are those of the j-th
 pub opens-count : {b : List ℕ} {n : ℕ} {Ts : List Table} → Opens b n Ts → (j : ℕ) → j < length Ts → rowCount b j ≡ length (getD Ts j [])
@@ -180,12 +183,17 @@ module _ (n : ℕ) (Ts : List Table) (w : Packable n Ts) where
       let e = entries-here (bundleOf n Ts) bundle-laid in
       false-tests (tests-largeEntry (bundleOf n Ts)) (sym e ∙ rw bundle-bodies (sym f))
 
+  distinct-tables : (j : ℕ) → j < length Ts → Distinct (tableOf (bundleOf n Ts) j)
+  distinct-tables j h =
+      subst Distinct (sym (read-at (bundleOf n Ts) (length Ts) Ts (bundle-read .tables) j h)) (w .distinct (getD Ts j []) (member-at Ts [] j h))
+
   pub bundle-opens : Opens (bundleOf n Ts) n Ts
   unfolding bundleOf
   bundle-opens = record {
     passes = bundle-accepted (bundleOf n Ts) (record {
       layout = bundle-laid;
       small = λ j e h m. stable (tests-le e 50) (λ g. no-large (j, h, (e, m, omega (arith, g))));
+      distinct = distinct-tables;
     });
     variables = refl;
     count = refl;
@@ -214,6 +222,7 @@ given-packable n counts tables room w =
       sized = sized-given n counts tables (omega (arith, s .whole));
       limited = λ G m. limit (length G) (counted Ts G m);
       small = rw (bodies-given n counts tables (s .whole)) (w .small);
+      distinct = w .distinct;
       short = w .short;
     }
 

@@ -3,10 +3,11 @@
 --   NotOneToSixteen counts         9: the number of tables is not 1 to 16
 --   WrongLength n counts tables    2: the length of the tables is not n times the sum of the counts
 --   CountAbove4096 counts          3: a count above 4,096
+--   GivenEqualRows n counts tables   12: two equal rows in a table given
 --   NoRoom size room               8: a bundle of that size is longer than the room, or than 65,535 bytes
 --   shapeChecks n counts tables    the checks 1, 9, 2, 3, in order: of n, the counts and the tables' length
---   contentChecks n counts tables room   the checks 4 and 8: of the entries and the bundle's length
---   writeChecks n counts tables room   the checks in order: 1, 9, 2, 3, 4, 8. The room is the length of the lent buffer
+--   contentChecks n counts tables room   the checks 4, 12 and 8: of the entries, the rows and the bundle's length
+--   writeChecks n counts tables room   the checks in order: 1, 9, 2, 3, 4, 12, 8. The room is the length of the lent buffer
 --   writeNumber, writeLength       the paper's number of an answer, 0 for none, and the bundle's length, 0 beside a refusal
 --   writeAnswer m k                the answer of that number and length: the length, or the refusal
 --   writtenBuffer n counts tables buffer   the buffer with the bundle at its front; the bytes behind it stay
@@ -24,7 +25,9 @@ use Rattle.checks.specs.Tests.{Tests, any}
 use Rattle.checks.specs.Refusals.{Check, refusal, check, answered, numbered}
 use Rattle.checks.proofs.TestLaws.{tests-le, tests-lt, tests-eq, tests-and, tests-or, tests-not, tests-any}
 use Rattle.terms.specs.TableChecks.{tests-notOneToSix, tests-entryAbove50}
-use Rattle.packing.specs.GivenTables.{totalRows, givenBundle}
+use Rattle.terms.specs.Monomials.{Table, EqualRows}
+use Rattle.distinct.specs.EqualRows.{equalRowsTest, tests-equalRows}
+use Rattle.packing.specs.GivenTables.{totalRows, givenTables, givenBundle}
 use Rattle.packing.specs.declared.WriteAnswer.{WriteAnswer}
 use Rattle.packing.specs.declared.WriteAnswer.the-variants.{Length, Refused}
 
@@ -48,6 +51,12 @@ CountAbove4096 counts = (c : ℕ) × List·Memᴰ c counts × (4096 < c)
 pub tests-countAbove4096 : (counts : List ℕ) → Tests (any (λ c. ltb 4096 c) counts) (CountAbove4096 counts)
 tests-countAbove4096 counts = tests-any counts (λ (c : ℕ) m. tests-lt 4096 c)
 
+abbrev pub GivenEqualRows : ℕ → List ℕ → List ℕ → Type 0
+GivenEqualRows n counts tables = (G : Table) × List·Memᴰ G (givenTables n counts tables) × EqualRows G
+
+pub tests-givenEqualRows : (n : ℕ) (counts tables : List ℕ) → Tests (any equalRowsTest (givenTables n counts tables)) (GivenEqualRows n counts tables)
+tests-givenEqualRows n counts tables = tests-any (givenTables n counts tables) (λ (G : Table) m. tests-equalRows G)
+
 abbrev pub NoRoom : ℕ → ℕ → Type 0
 NoRoom size room = (room < size) ⊎ (65535 < size)
 
@@ -67,6 +76,7 @@ shapeChecks n counts tables =
 abbrev pub contentChecks : ℕ → List ℕ → List ℕ → ℕ → List Check
 contentChecks n counts tables room =
     check 4 (lit< tt) (tests-entryAbove50 tables)
+    ∷ check 12 (lit< tt) (tests-givenEqualRows n counts tables)
     ∷ check 8 (lit< tt) (tests-noRoom (length (givenBundle n counts tables)) room)
     ∷ []
 

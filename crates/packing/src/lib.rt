@@ -1,11 +1,13 @@
 // The bundle writer: tables given as row counts and rows end to end, written as one bundle into a lent buffer.
 use bundle::MOST_BYTES;
 use bundle::MOST_TABLES;
+use distinct::has_equal_rows;
 use terms::MOST_ROWS;
 use terms::has_large_entry;
 use writing::copy_from;
 use writing::put_byte;
 ghost use mathlib.Core.Path.{_≡_};
+ghost use mathlib.Core.Bool.{false};
 ghost use mathlib.Core.List.{[], _∷_};
 ghost use Prim.Native.Nat.{_+_, _*_, _≤_, _<_};
 ghost use lib.Dec.{ltb};
@@ -13,8 +15,9 @@ ghost use lib.ListN.{length, getD};
 ghost use Rattle.checks.specs.Tests.{any};
 ghost use Rattle.checks.specs.Refusals.{refusal};
 ghost use Rattle.writing.specs.Written.{Wrote};
+ghost use Rattle.distinct.specs.EqualRows.{equalRowsTest};
 ghost use Rattle.bundle.specs.Format.{low, high, entriesOf};
-ghost use Rattle.packing.specs.GivenTables.{totalRows};
+ghost use Rattle.packing.specs.GivenTables.{totalRows, givenTables};
 ghost use Rattle.packing.specs.Operation.{shapeChecks, writeChecks, EntriesFit, WritePromise};
 
 // What `write_bundle` answers: the bundle's length, or the number of the refusal.
@@ -86,6 +89,24 @@ fn shape_refusal(n: usize, counts: &[u16], tables: &[u8]) -> u8
     0
 }
 
+// Whether some table given has equal rows, where n, the counts, the tables' length and the entries passed.
+fn some_equal_rows(n: usize, counts: &[u16], tables: &[u8]) -> bool
+    requires { ⌜ (refusal (shapeChecks n (now counts) (now tables)) ≡ 0) × (any (λ e. ltb 50 e) (now tables) ≡ false) ⌝ }
+    ensures { λ r. ⌜ r ≡ any equalRowsTest (givenTables n (now (counts .entry)) (now (tables .entry))) ⌝ }
+{
+    let mut place = 0;
+    let mut j = 0;
+    while j < counts.len() {
+        let end = place + count_at(counts, j) * n;
+        if has_equal_rows(n, &tables[place..end]) {
+            return true;
+        }
+        place = end;
+        j += 1;
+    }
+    false
+}
+
 // The number of the first check that refuses, for a buffer of so many bytes; 0 where none does.
 fn write_refusal(n: usize, counts: &[u16], tables: &[u8], room: usize) -> u8
     ensures { λ r. ⌜ r ≡ refusal (writeChecks n (now (counts .entry)) (now (tables .entry)) room) ⌝ }
@@ -98,6 +119,9 @@ fn write_refusal(n: usize, counts: &[u16], tables: &[u8], room: usize) -> u8
     let size = 2 + 4 * counts.len() + tables.len();
     if large {
         return 4;
+    }
+    if some_equal_rows(n, counts, tables) {
+        return 12;
     }
     if room < size {
         return 8;

@@ -17,6 +17,8 @@ use Rattle.terms.specs.Order.{Ascending}
 use Rattle.terms.specs.Rows.{rows, firstRows, flat}
 use Rattle.checks.specs.Refusals.{Check, Accepts, Refuses, refusal, answered}
 use Rattle.terms.specs.TableChecks.{tableChecks, TableAccepted}
+use Rattle.distinct.specs.EqualRows.{distinctChecks}
+use Rattle.distinct.proofs.CheckLaws.{distinct-listed}
 use Rattle.terms.proofs.RowsLaws.{rows-size, rows-flat}
 use Rattle.checks.proofs.RefusalLaws.{accepted, accepts-nil, accepts-cons, accepts-left, accepts-append, accepts-refusal, refusal-refuses, refuses-refusal}
 use Rattle.checks.proofs.RefusalLaws.{answered-accepted, answered-refused}
@@ -42,7 +44,8 @@ use Rattle.terms.specs.Ideal.{Inside}
 use Rattle.division.specs.Cones.{DivisorAt}
 use Rattle.division.specs.Scan.{scan, Answers}
 use Rattle.finding.specs.declared.FindAnswer.{FindAnswer}
-use Rattle.division.proofs.JanetLaws.{janet-disjoint, ascending-distinct}
+use Rattle.terms.proofs.OrderLaws.{ascending-distinct}
+use Rattle.division.proofs.JanetLaws.{janet-disjoint}
 use Rattle.division.proofs.DescentLaws.{scan-finds, answers-first, answers-unique}
 use Rattle.checks.proofs.TestLaws.{tests-eq}
 use Rattle.marking.specs.Operation.{MarksPromise, marksNumber}
@@ -110,7 +113,7 @@ completion-of n table buffer k after p = record {
 }
 
 room-decides : (n : ℕ) (table buffer : List ℕ) (answer : CompleteAnswer) (after : List ℕ) → CompletePromise n table buffer answer after
-    → Accepts (tableChecks n table) → (H : Table) → CompletedTable n (rows n table) H → (completeNumber answer ≡ 8) ↔ (roomFor n (length buffer) < length H)
+    → Accepts (distinctChecks n table) → (H : Table) → CompletedTable n (rows n table) H → (completeNumber answer ≡ 8) ↔ (roomFor n (length buffer) < length H)
 room-decides n table buffer answer after p a H is =
     let same : completedOf n table ≡ H = completed-unique (completed-table n (rows n table) (rows-size n table)) is in
     let size = ap length same in (
@@ -188,11 +191,8 @@ module _ (n : ℕ) (table buffer : List ℕ) (k : ℕ) (after : List ℕ) (p : C
   written : take (k * n) after ≡ flat H
   written = complete-front p
 
-  passed : Accepts (tableChecks n table)
-  passed = accepts-left (tableChecks n table) _ (accepted (completeChecks n table (length buffer)) (sym (p .number)))
-
   given : TableAccepted n table
-  given = table-accepted n table passed
+  given = distinct-listed n table _ (sym (p .number))
 
   same-rows : H ≡ rows n (flat H)
   same-rows = sym (rows-flat n H (given .some) (completion-size is))

@@ -21,7 +21,7 @@ use Rattle.terms.specs.Monomials.{Monomial, Table, _!_, _∈_, rowAt, degree, O
 use Rattle.terms.specs.Ideal.{Inside, SameIdeal}
 use Rattle.terms.specs.Rows.{rows, firstRows}
 use Rattle.checks.specs.Refusals.{Check, Accepts, Refuses}
-use Rattle.terms.specs.TableChecks.{tableChecks}
+use Rattle.distinct.specs.EqualRows.{distinctChecks}
 use Rattle.division.specs.Cones.{DivisorAt}
 use Rattle.division.specs.Janet.{Multiplicative, Complete}
 use Rattle.division.specs.Scan.{scan}
@@ -96,7 +96,7 @@ pub record DemandTwo : Type 1 where
       → completeNumber answer ≡ 0 → Completion n table buffer (completeRows answer) after
   -- 8 exactly when rule 5's table has more rows than the room
   pub room : (n : ℕ) (table buffer : List ℕ) (answer : CompleteAnswer) (after : List ℕ) → CompletePromise n table buffer answer after
-      → Accepts (tableChecks n table) → (H : Table) → CompletedTable n (rows n table) H
+      → Accepts (distinctChecks n table) → (H : Table) → CompletedTable n (rows n table) H
       → (completeNumber answer ≡ 8) ↔ (roomFor n (length buffer) < length H)
 
 -- row number r is the only one whose cone holds q

@@ -10,19 +10,25 @@ use mathlib.Core.Option.{Option, none, some}
 use Prim.Native.Nat.{ℕ}
 use lib.IntN.{pos}
 use lib.ListN.{length}
-use Rattle.terms.specs.Monomials.{Monomial}
-use Rattle.terms.specs.ExampleTables.{tableB, tableC, tableD, bytesD, bundleD, listingD, completedD, tableE, completedE, tableF, completedF, tableI}
+use Rattle.terms.specs.Monomials.{Monomial, EqualRows}
+use Rattle.checks.specs.Refusals.{refusal}
+use Rattle.terms.specs.ExampleTables.{tableB, tableC, tableD, bytesD, bundleD, listingD, completedD, tableE, bytesE, bundleE, tableF, completedF, tableI}
 use Rattle.terms.specs.ExampleTables.{completedI}
 use Rattle.terms.specs.Order.{Ascending}
 use Rattle.division.specs.Janet.{Complete, tableMarks}
 use Rattle.division.specs.Descent.{Descent, descent}
 use Rattle.completion.specs.Completed.{CompletedTable}
-use Rattle.completing.specs.Operation.{CompletePromise}
+use Rattle.marking.specs.Operation.{marksChecks}
+use Rattle.inside.specs.Operation.{insideChecks}
+use Rattle.finding.specs.Operation.{findChecks}
+use Rattle.completing.specs.Operation.{completeChecks, CompletePromise}
 use Rattle.completing.specs.declared.CompleteAnswer.{CompleteAnswer}
 use Rattle.completing.specs.declared.CompleteAnswer.the-variants.{Rows, Refused}
 use Rattle.counts.specs.Counts.{countAt, polynomialAt, steadyOf}
+use Rattle.counting.specs.Operations.{countChecks}
+use Rattle.bundle.specs.Checks.{openChecks}
 use Rattle.listing.specs.Text.{bundleText}
-use Rattle.packing.specs.Operation.{WritePromise}
+use Rattle.packing.specs.Operation.{writeChecks, WritePromise}
 use Rattle.packing.specs.declared.WriteAnswer.{WriteAnswer}
 use Rattle.packing.specs.declared.WriteAnswer.the-variants as write
 
@@ -41,8 +47,11 @@ pub record StarredExamples : Type 0 where
   -- the listing, byte for byte, its completed rows, their marks and steady degree; count at 3 is 6, polynomial at 0 is 3 while the count is 1
   pub D : (bundleText bundleD ≡ listingD) × CompletedTable 2 tableD completedD × (tableMarks 2 completedD ≡ 2 ∷ 2 ∷ 3 ∷ []) × (steadyOf completedD ≡ 3)
       × (countAt 2 completedD 3 ≡ 6) × (polynomialAt 2 completedD 0 ≡ pos 3) × (countAt 2 completedD 0 ≡ 1)
-  -- rows 1 0 and 1 0: completed to one row
-  pub E : CompletedTable 2 tableE completedE
+  -- rows 1 0 and 1 0: refused by 12 for marks, inside, complete, write, open and the listing, whatever else is asked; and by 6 for find and count
+  pub E : EqualRows tableE × ((size : ℕ) → refusal (marksChecks 2 bytesE size) ≡ 12) × ((query : List ℕ) → refusal (insideChecks 2 bytesE query) ≡ 12)
+      × ((size : ℕ) → refusal (completeChecks 2 bytesE size) ≡ 12) × ((room : ℕ) → refusal (writeChecks 2 (2 ∷ []) bytesE room) ≡ 12)
+      × ((j : ℕ) → refusal (openChecks bundleE j) ≡ 12) × (bundleText bundleE ≡ 82 ∷ 32 ∷ 49 ∷ 50 ∷ 10 ∷ [])
+      × ((a b : ℕ) → refusal (findChecks 2 bytesE (a ∷ b ∷ [])) ≡ 6) × (refusal (countChecks 2 bytesE 0) ≡ 6)
   -- ascending, with marks 4, 4, 6, 6, 7; not complete
   pub F : Ascending tableF × (tableMarks 3 tableF ≡ 4 ∷ 4 ∷ 6 ∷ 6 ∷ 7 ∷ []) × (Complete 3 tableF → ⊥)
   -- in F, find of 1 2 5 gives row 3 in 4 steps; of 2 0 1, none in 2 steps

@@ -1,4 +1,5 @@
-// Tables that the checks 1 to 4 refuse, and tables at their edge that pass: the number of each, a line each.
+// Tables that the checks 1 to 4 and 12 refuse, and tables at their edge that pass: the number of each, a line each. The groups of 1 to 4 have
+// equal rows, which these checks pass over.
 fn show(n: usize, table: &[u8]) {
     io::print_decimal(1, terms::table_refusal(n, table) as u64);
     io::write_all(1, b"\n");
@@ -39,9 +40,33 @@ fn entries() {
     show(6, &[51u8; 4096 * 6]);
 }
 
+// The number by which 1 to 4 and then 12 refuse.
+fn show_rows(n: usize, table: &[u8]) {
+    io::print_decimal(1, distinct::distinct_refusal(n, table) as u64);
+    io::write_all(1, b"\n");
+}
+
+// equal rows: next to each other, far apart, all; behind 1 to 4; and rows that are not equal
+fn rows() {
+    show_rows(2, b"\x01\x00\x01\x00");
+    show_rows(1, b"\x07\x05\x06\x07");
+    show_rows(6, &[0u8; 4096 * 6]);
+    show_rows(
+        7,
+        b"\x00\x00\x00\x00\x00\x00\x00\x00\x00\x00\x00\x00\x00\x00",
+    );
+    show_rows(2, b"\x01\x00\x01\x00\x01");
+    show_rows(1, &[0u8; 4096 + 1]);
+    show_rows(2, b"\x01\x00\x01\x00\x00\x33");
+    show_rows(2, b"\x02\x01\x00\x02\x01\x02\x02\x00");
+    show_rows(1, b"\x00\x01\x02\x32");
+    show_rows(3, b"");
+}
+
 fn main() {
     variables();
     lengths();
     counts();
     entries();
+    rows();
 }

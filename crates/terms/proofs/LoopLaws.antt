@@ -1,7 +1,7 @@
 -- What the loops and the returns of the code need, over plain lists and numbers.
 --
 --   fails-at, never-fails     the two answers of `first_failure`
---   differs-at, never-differs   the answers of `compare` and of `precedes_next`
+--   differs-at, never-differs   two rows that differ at a variable, and that do not
 --   degree-next               the degree from a place on, and from the next
 --   largest-none, -larger, -stays, -whole   the largest of the entries so far
 --   stretch-large, stretch-small   what the largest entry of a stretch says of the stretch
@@ -44,7 +44,7 @@ fails-at u q i b h = rw add-one (inr (record { exceeds = h; first = λ j l. b j 
 pub never-fails : (u q : Monomial) (n : ℕ) → length u ≤ n → ((j : ℕ) → j ≤ n → u ! j ≤ q ! j) → FirstFailure u q 0
 never-fails u q n s b = inl (refl, λ i. by-cases (decLe i n) (b i) (λ g. omega (arith, beyond u i (omega arith))))
 
--- ---- compare, precedes_next
+-- ---- precedes_next
 
 pub differs-at : (u v : Monomial) (i : ℕ) → ((j : ℕ) → j ≤ i → u ! j ≡ v ! j) → u ! suc i < v ! suc i → Precedes u v
 differs-at u v i b h = record { at = suc i; same = λ j l. b j (le-of-suc-le-suc l); less = h }

@@ -1,11 +1,9 @@
 -- Laws of the order of rows.
 --
 --   precedes-irreflexive, precedes-trans   the order is strict
---   not-after-trans, not-after-none        'not after' is transitive, and a row that is not after another does not come behind it
 --   tests-precedes, tests-ascending        the tests agree with the order
---   ascending-between      in an ascending table an earlier row precedes a later one
+--   ascending-between, ascending-distinct   in an ascending table an earlier row precedes a later one, so no two are equal
 --   ascending-unique       two ascending tables with the same rows are equal
---   compares-unique        a comparison has one answer
 use mathlib.Core.Path.{_≡_, refl, sym, ap₂, _∙_, subst}
 use mathlib.Core.List.{[], _∷_, List·Memᴰ·head, List·Memᴰ·tail, List·Memᴰ·cases-cons, List·Memᴰ·not-nil}
 use mathlib.Core.Logic.{_⊎_, inl, inr, ⊎-elim, by-cases}
@@ -16,10 +14,8 @@ use native.Mathlib.Omega.{arith}
 use lib.ListN.{length}
 use Rattle.checks.specs.Tests.{Tests}
 use Rattle.checks.proofs.TestLaws.{tests-as, tests-and, tests-or, tests-lt, tests-eq}
-use Rattle.terms.specs.Monomials.{Monomial, Table, _!_, _∈_, rowAt, SameBefore}
-use Rattle.terms.specs.Order.{Precedes, NotAfter, Ascending, Compares, precedesTest, ascendingTest}
-use Rattle.terms.specs.declared.Order.{Order}
-use Rattle.terms.specs.declared.Order.the-variants.{Less, Equal, Greater}
+use Rattle.terms.specs.Monomials.{Monomial, Table, _!_, _∈_, rowAt, SameBefore, Distinct}
+use Rattle.terms.specs.Order.{Precedes, Ascending, precedesTest, ascendingTest}
 use Rattle.terms.proofs.MonomialLaws.{before-first}
 
 -- ---- the order is strict
@@ -36,17 +32,6 @@ precedes-trans {u} {v} {w} a b = by-cases (decLt (b .at) (a .at))
     let e : b .at ≡ a .at = omega arith in
     let f : v ! (a .at) < w ! (a .at) = subst (λ (k : ℕ). v ! k < w ! k) e (b .less) in
     record { at = a .at; same = λ j t. a .same j t ∙ b .same j (omega arith); less = omega (arith, a .less) }))
-
--- ---- not after
-
-pub not-after-trans : {u v w : Monomial} → NotAfter u v → NotAfter v w → NotAfter u w
-not-after-trans {w = w} (inl e) b = subst (λ (x : Monomial). NotAfter x w) (sym e) b
-not-after-trans {u = u} (inr p) (inl e) = inr (subst (λ (x : Monomial). Precedes u x) e p)
-not-after-trans (inr p) (inr q) = inr (precedes-trans p q)
-
-pub not-after-none : {u v : Monomial} → NotAfter u v → Precedes v u → ⊥
-not-after-none {v = v} (inl e) q = precedes-irreflexive v (subst (λ (x : Monomial). Precedes v x) e q)
-not-after-none {u = u} (inr p) q = precedes-irreflexive u (precedes-trans p q)
 
 -- ---- the tests
 
@@ -78,7 +63,7 @@ precedes-uncons a b u v p = by-place (p .at) (p .same) (p .less)
     by-place (suc (suc i)) s l = inr (s 1 (omega arith), record { at = suc i; same = rest i s; less = l })
 
 -- the order looks at exponents alone
-pub precedes-alike : {u v : Monomial} (w x : Monomial) → ((i : ℕ) → u ! i ≡ w ! i) → ((i : ℕ) → v ! i ≡ x ! i) → Precedes u v → Precedes w x
+precedes-alike : {u v : Monomial} (w x : Monomial) → ((i : ℕ) → u ! i ≡ w ! i) → ((i : ℕ) → v ! i ≡ x ! i) → Precedes u v → Precedes w x
 precedes-alike w x e f p = record {
   at = p .at;
   same = λ j t. sym (e j) ∙ p .same j t ∙ f j;
@@ -132,6 +117,11 @@ ascending-between G a r (suc s) l h = ⊎-elim
     (λ k. precedes-trans (ascending-between G a r s k (omega arith)) (a s h))
     (eq-or-lt-of-le (le-of-suc-le-suc l))
 
+-- so no two of its rows are equal
+pub ascending-distinct : (G : Table) → Ascending G → Distinct G
+ascending-distinct G a (s, l, (r, h, e)) =
+    precedes-irreflexive (rowAt G s) (subst (λ (u : Monomial). Precedes u (rowAt G s)) e (ascending-between G a r s h l))
+
 -- each later row of an ascending table comes after the first
 pub all-after : (u : Monomial) (G : Table) → Ascending (u ∷ G) → (v : Monomial) → v ∈ G → Precedes u v
 all-after u [] a v m = absurd (List·Memᴰ·not-nil m)
@@ -159,16 +149,3 @@ ascending-unique (u ∷ G) (v ∷ H) a b s t =
     let e : u ≡ v = first-same u v G H a b (s u (List·Memᴰ·head refl)) (t v (List·Memᴰ·head refl)) in
     let r : G ≡ H = ascending-unique G H (ascending-tail u G a) (ascending-tail v H b) (rest-within u v G H a e s) (rest-within v u H G b (sym e) t) in
     ap₂ (λ (x : Monomial) (y : Table). x ∷ y) e r
-
--- ---- comparison
-
-pub compares-unique : (u v : Monomial) (o p : Order) → Compares o u v → Compares p u v → o ≡ p
-compares-unique u v Less Less h k = refl
-compares-unique u v Less Equal h k = absurd (precedes-irreflexive v (subst (λ (x : Monomial). Precedes x v) k h))
-compares-unique u v Less Greater h k = absurd (precedes-irreflexive u (precedes-trans h k))
-compares-unique u v Equal Less h k = absurd (precedes-irreflexive v (subst (λ (x : Monomial). Precedes x v) h k))
-compares-unique u v Equal Equal h k = refl
-compares-unique u v Equal Greater h k = absurd (precedes-irreflexive v (subst (λ (x : Monomial). Precedes v x) h k))
-compares-unique u v Greater Less h k = absurd (precedes-irreflexive u (precedes-trans k h))
-compares-unique u v Greater Equal h k = absurd (precedes-irreflexive v (subst (λ (x : Monomial). Precedes v x) k h))
-compares-unique u v Greater Greater h k = refl

@@ -3,19 +3,23 @@
 --   length-rows, rows-at, rows-size   how many rows the bytes are, row r of them, and that each has n exponents
 --   rows-flat, flat-rows, flat-firstRows   rows of bytes that were written from a table, and the bytes again
 --   member-at, member-index   a row by its number, and the number of a row
+--   member-take, member-drop  what stands in a part of a list stands in it
+--   rows-part              the rows of the first bytes
 --   row-fits               a row below the count lies within the bytes
 --   zeros-at               each byte of an array of zeros is 0
 --   padded-at        a padded row has the exponents of the row
 --   row-read, row-variables   a row that was read from a table has its exponents and its n
 --   entry-at               an exponent of a row is a byte of the table
-use mathlib.Core.Path.{_≡_, refl, sym, ap, _∙_}
+use mathlib.Core.Path.{_≡_, refl, sym, ap, _∙_, subst}
 use mathlib.Core.List.{List, [], _∷_, _++_, append-assoc, append-nil, List·Memᴰ, List·Memᴰ·head, List·Memᴰ·tail, List·Memᴰ·cases-cons, List·Memᴰ·not-nil}
+use mathlib.Core.List.{Memᴰ·append-left, Memᴰ·append-right}
 use mathlib.Core.Logic.{⊎-elim, by-cases}
 use Prim.Native.Nat.{ℕ, zero, suc, _+_, _*_, _-_, _/_, _≤_, _<_}
 use native.Mathlib.Nat.{zero-add, not-suc-le-zero, le-of-suc-le-suc, mul-le-mul-right, add-mul, one-mul, mul-div-left, div-mul-le-self}
 use native.Mathlib.Decide.{decLt}
 use native.Mathlib.Omega.{arith}
-use lib.ListN.{set, length, getD, take, drop, replicate, length-append, length-drop, length-replicate, getD-replicate, List·getD-append, List·getD-eq-default}
+use lib.ListN.{set, length, getD, take, drop, take-append-drop, replicate, length-append, length-drop, length-replicate, getD-replicate}
+use lib.ListN.{List·getD-append, List·getD-eq-default}
 use lib.Seq.{paste, getD-take, getD-drop, getD-append-add, length-take-le, drop-drop, take-at, drop-at, take-all, take-add}
 use Rattle.terms.specs.Monomials.{Monomial, Table, _!_, rowAt, OfSize}
 use Rattle.terms.specs.Rows.{firstRows, rows, flat, padded, asRow, monomialOf, putRow}
@@ -45,6 +49,12 @@ module _ {A : Type 0} where
       (λ e. (0, omega arith, sym e))
       (λ i. let p = member-index l d x i in (suc (p .0), omega (arith, p .1), p .2))
       (List·Memᴰ·cases-cons m)
+
+  pub member-take : (k : ℕ) (x : A) (l : List A) → List·Memᴰ x (take k l) → List·Memᴰ x l
+  member-take k x l m = subst (List·Memᴰ x) (take-append-drop k l) (Memᴰ·append-left (drop k l) m)
+
+  pub member-drop : (k : ℕ) (x : A) (l : List A) → List·Memᴰ x (drop k l) → List·Memᴰ x l
+  member-drop k x l m = subst (List·Memᴰ x) (take-append-drop k l) (Memᴰ·append-right (take k l) m)
 
 -- ---- the first rows
 
@@ -129,6 +139,10 @@ flat-firstRows n zero t = let e : 0 * n ≡ 0 = omega arith in rw e
 flat-firstRows n (suc k) t =
     let e : suc k * n ≡ n + k * n = omega arith in
     rw (e, take-add n (k * n) t, flat-firstRows n k (drop n t))
+
+-- the rows of the first bytes are the first rows
+pub rows-part : (n k : ℕ) (t : List ℕ) → 0 < n → k * n ≤ length t → rows n (take (k * n) t) ≡ firstRows n k t
+rows-part n k t p h = ap (rows n) (sym (flat-firstRows n k t)) ∙ rows-flat n (firstRows n k t) p (firstRows-size n k t h)
 
 pub flat-rows : (n : ℕ) (t : List ℕ) → length t ≡ length t / n * n → flat (rows n t) ≡ t
 unfolding rows

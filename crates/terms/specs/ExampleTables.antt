@@ -5,7 +5,7 @@
 --   tableC           "Row 3, n=1"
 --   tableD, completedD   the rows of the listing, 2 1 and 0 2, and their completed table; as bytes, bytesD; as a bundle, bundleD;
 --                    the listing of that bundle, byte for byte, listingD
---   tableE, completedE   "Rows 1 0 and 1 0"
+--   tableE           "Rows 1 0 and 1 0", refused by 12; as bytes, bytesE; as a bundle, bundleE
 --   tableF, completedF   the rows of document 002, example 5.2, which F and G speak of, and the 11 rows that H completes them to
 --   tableI, completedI   the rows of document 004, example 5.10, columns reversed
 --   J                D's rows with 6 and with 5 bytes of room
@@ -43,8 +43,11 @@ completedD = (0 ∷ 2 ∷ []) ∷ (1 ∷ 2 ∷ []) ∷ (2 ∷ 1 ∷ []) ∷ []
 abbrev pub tableE : Table
 tableE = (1 ∷ 0 ∷ []) ∷ (1 ∷ 0 ∷ []) ∷ []
 
-abbrev pub completedE : Table
-completedE = (1 ∷ 0 ∷ []) ∷ []
+abbrev pub bytesE : List ℕ
+bytesE = 1 ∷ 0 ∷ 1 ∷ 0 ∷ []
+
+abbrev pub bundleE : List ℕ
+bundleE = 2 ∷ 1 ∷ 2 ∷ 0 ∷ 6 ∷ 0 ∷ bytesE
 
 abbrev pub tableF : Table
 tableF = (0 ∷ 0 ∷ 2 ∷ []) ∷ (0 ∷ 1 ∷ 1 ∷ []) ∷ (0 ∷ 2 ∷ 0 ∷ []) ∷ (1 ∷ 0 ∷ 1 ∷ []) ∷ (3 ∷ 1 ∷ 0 ∷ []) ∷ []

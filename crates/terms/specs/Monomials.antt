@@ -6,6 +6,8 @@
 --   rowAt G r        row r of G. Rows count from 0
 --   u ∈ G            u is a row of G
 --   OfSize n G       each row of G has n exponents
+--   EqualRows G      rows r and s of G, r below s, are the same monomial
+--   Distinct G       no two rows of G are
 --   SameBefore i u v   u and v are equal in variables 1 to i − 1
 --   times u i k      u times variable i to the power k
 --   AtMost b u       no exponent of u is above b
@@ -18,6 +20,7 @@ use mathlib.Core.List.{List, [], _∷_, List·Memᴰ}
 use mathlib.Core.Logic.{_⊎_}
 use Prim.Native.Nat.{ℕ, zero, suc, _+_, _≤_, _<_}
 use lib.ListN.{length, getD, set}
+use Rattle.checks.specs.Tests.{SomeBelow}
 
 abbrev pub Monomial : Type 0
 Monomial = List ℕ
@@ -39,6 +42,12 @@ u ∈ G = List·Memᴰ u G
 
 abbrev pub OfSize : ℕ → Table → Type 0
 OfSize n G = (u : Monomial) → u ∈ G → length u ≡ n
+
+abbrev pub EqualRows : Table → Type 0
+EqualRows G = SomeBelow (length G) (λ s. SomeBelow s (λ r. rowAt G r ≡ rowAt G s))
+
+abbrev pub Distinct : Table → Type 0
+Distinct G = EqualRows G → ⊥
 
 abbrev pub SameBefore : ℕ → Monomial → Monomial → Type 0
 SameBefore i u v = (j : ℕ) → j < i → u ! j ≡ v ! j

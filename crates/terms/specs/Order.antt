@@ -1,9 +1,7 @@
 -- The order of rows: the first variable decides, then the next.
 --
 --   Precedes u v     u comes before v: at the first variable where they differ u has less
---   NotAfter u v     u is v or precedes it
 --   Ascending G      G ascends strictly: each row precedes the next
---   Compares o u v   what the answer o of a comparison of u with v says
 --
 -- With the tests `precedesTest`, `ascendingTest`.
 use mathlib.Core.Path.{_≡_}
@@ -14,24 +12,14 @@ use Prim.Native.Nat.{ℕ, suc, _<_}
 use lib.Dec.{ltb, eqb}
 use lib.ListN.{length}
 use Rattle.terms.specs.Monomials.{Monomial, Table, _!_, rowAt, SameBefore}
-use Rattle.terms.specs.declared.Order.{Order}
-use Rattle.terms.specs.declared.Order.the-variants.{Less, Equal, Greater}
 
 pub record Precedes (u v : Monomial) : Type 0 where
   pub at : ℕ
   pub same : SameBefore at u v
   pub less : u ! at < v ! at
 
-abbrev pub NotAfter : Monomial → Monomial → Type 0
-NotAfter u v = (u ≡ v) ⊎ Precedes u v
-
 abbrev pub Ascending : Table → Type 0
 Ascending G = (r : ℕ) → suc r < length G → Precedes (rowAt G r) (rowAt G (suc r))
-
-abbrev pub Compares : Order → Monomial → Monomial → Type 0
-Compares Less u v = Precedes u v
-Compares Equal u v = u ≡ v
-Compares Greater u v = Precedes v u
 
 unfoldable pub precedesTest : Monomial → Monomial → Bool
 precedesTest [] [] = false

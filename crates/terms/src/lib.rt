@@ -7,7 +7,7 @@ ghost use lib.ListN.{length, take, drop};
 ghost use Rattle.checks.specs.Tests.{any};
 ghost use Rattle.terms.specs.Monomials.{_!_, rowAt, LargestOf};
 ghost use Rattle.terms.specs.Ideal.{FirstFailure, dividesTest};
-ghost use Rattle.terms.specs.Order.{Compares, precedesTest, ascendingTest};
+ghost use Rattle.terms.specs.Order.{precedesTest, ascendingTest};
 ghost use Rattle.terms.specs.Rows.{rows, asRow, putRow};
 ghost use Rattle.checks.specs.Refusals.{refusal};
 ghost use Rattle.terms.specs.TableChecks.{tableChecks};
@@ -31,13 +31,6 @@ pub struct Degree(pub usize);
 
 // The number of a row, from 0.
 pub struct RowNumber(pub usize);
-
-// What a comparison of two rows says of the first.
-pub enum Order {
-    Less,
-    Equal,
-    Greater,
-}
 
 // The byte at a place of the row of n bytes from `base` on, 0 past its end.
 fn byte_or_zero(n: usize, table: &[u8], base: usize, place: usize) -> u8
@@ -111,25 +104,6 @@ pub fn divides(u: Row, q: Row) -> bool
 {
     let failure = first_failure(u, q);
     failure.0 == 0
-}
-
-// Which of two rows comes first, or that they are equal.
-pub fn compare(u: Row, v: Row) -> Order
-    ensures { λ r. ⌜ Compares r (u .exponents) (v .exponents) ⌝ }
-{
-    let mut i = 0;
-    while i < 6 {
-        let x = u.exponents[i];
-        let y = v.exponents[i];
-        if x < y {
-            return Order::Less;
-        }
-        if y < x {
-            return Order::Greater;
-        }
-        i += 1;
-    }
-    Order::Equal
 }
 
 // Whether row k precedes the next row.

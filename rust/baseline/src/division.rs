@@ -1,33 +1,64 @@
 //! Marks of ascending rows and of others, find by a scan of all rows, find by a descent through ranges of rows.
 
-use crate::packed::pack_all;
+use crate::packed::{ascends, entries_are_small, pack_all};
 
-/// The marks of ascending rows, from the last row to the first. Where a row and the next first differ, the row has no
-/// mark; before that place it has the next row's marks, behind it all. A row that equals the next has its marks.
+/// The marks of ascending rows, from the last row to the first.
 pub fn ascending_marks(n: usize, table: &[u8], marks: &mut [u8]) {
-    let all = ((1u32 << n) - 1) as u8;
     let mut next: Option<(&[u8], u8)> = None;
     for (row, mark) in table.chunks_exact(n).zip(marks.iter_mut()).rev() {
-        let own = next.map_or(all, |(after, later)| {
-            let differs = row.iter().zip(after).position(|(a, b)| a != b).unwrap_or(n);
-            let before = (1u32 << differs) - 1;
-            let behind = u32::from(all) & !((2u32 << differs) - 1);
-            (u32::from(later) & before | behind) as u8
+        let own = next.map_or(all_marks(n), |(after, later)| {
+            let differs = row.iter().zip(after).take_while(|(a, b)| a == b).count();
+            marks_before(n, differs, later)
         });
         *mark = own;
         next = Some((row, own));
     }
 }
 
-/// The marks of rows in any order, equal ones among them: the rows are sorted, and equal rows have equal marks.
-pub fn unsorted_marks(n: usize, table: &[u8], marks: &mut [u8]) {
-    let mut order: Vec<(u64, usize)> = pack_all(n, table).into_iter().zip(0..).collect();
-    order.sort_unstable();
-    let rows: Vec<u8> = order.iter().flat_map(|&(_, row)| &table[row * n..(row + 1) * n]).copied().collect();
-    let mut sorted = vec![0; order.len()];
-    ascending_marks(n, &rows, &mut sorted);
-    for (&(_, row), mark) in order.iter().zip(sorted) {
-        marks[row] = mark;
+/// A mark for each of n variables.
+fn all_marks(n: usize) -> u8 {
+    (1 << n) - 1
+}
+
+/// The marks of a row before another in order: none where they first differ, before that place the other row's, behind
+/// it all.
+fn marks_before(n: usize, differs: usize, later: u8) -> u8 {
+    let before = (1u32 << differs) - 1;
+    let behind = u32::from(all_marks(n)) & !((2u32 << differs) - 1);
+    (u32::from(later) & before | behind) as u8
+}
+
+/// The bits of a key below the row's word: the row's number.
+const ROW_BITS: u32 = 16;
+
+/// The marks of rows in any order, with all checks; nothing for an entry above 50 or two equal rows. Rows that do not
+/// ascend are sorted as words, each with the row's number below it.
+pub fn marks(n: usize, table: &[u8], marks: &mut [u8]) -> Option<()> {
+    if !entries_are_small(table) {
+        return None;
+    }
+    if ascends(n, table) {
+        ascending_marks(n, table, marks);
+        return Some(());
+    }
+    let words = pack_all(n, table).into_iter();
+    let mut keys: Vec<u64> = words.zip(0..).map(|(word, row)| word << ROW_BITS | row).collect();
+    keys.sort_unstable();
+    let distinct = keys.windows(2).all(|pair| (pair[0] ^ pair[1]) >> ROW_BITS != 0);
+    distinct.then(|| marks_of_keys(n, &keys, marks))
+}
+
+/// The marks of sorted keys, each at the place of its row.
+fn marks_of_keys(n: usize, keys: &[u64], marks: &mut [u8]) {
+    let unused = 6 - n;
+    let mut next: Option<(u64, u8)> = None;
+    for &key in keys.iter().rev() {
+        let own = next.map_or(all_marks(n), |(after, later)| {
+            let differs = (key ^ after).leading_zeros() as usize / 8 - unused;
+            marks_before(n, differs, later)
+        });
+        marks[(key & ((1 << ROW_BITS) - 1)) as usize] = own;
+        next = Some((key, own));
     }
 }
 

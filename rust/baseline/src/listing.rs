@@ -6,9 +6,8 @@ use crate::{bundle, completion, division};
 pub fn listing(bytes: &[u8]) -> Option<Vec<u8>> {
     let mut text = Vec::new();
     let mut buffer = vec![0; 6 * 4096];
-    let tables = bytes.get(1).copied().filter(|&tables| tables > 0)?;
-    for number in 0..usize::from(tables) {
-        let (n, table) = bundle::open(bytes, number)?;
+    let (n, tables) = bundle::tables(bytes)?;
+    for (number, table) in tables.into_iter().enumerate() {
         match completion::complete(n, table, &mut buffer) {
             None => line(&mut text, &["T", &number.to_string(), "R", "8"]),
             Some(rows) => {

@@ -40,7 +40,17 @@ pub fn ascends(n: usize, table: &[u8]) -> bool {
 
 fn rows_ascend<const N: usize>(table: &[u8]) -> bool {
     let rows = table.chunks_exact(N).map(pack::<N>);
-    rows.clone().zip(rows.skip(1)).fold(true, |ascend, (row, next)| ascend & (row < next))
+    rows.clone().zip(rows.skip(1)).all(|(row, next)| row < next)
+}
+
+/// No two rows of n bytes are equal. Rows that ascend tell it in one pass; others are sorted, and neighbours compared.
+pub fn is_distinct(n: usize, table: &[u8]) -> bool {
+    if ascends(n, table) {
+        return true;
+    }
+    let mut words = pack_all(n, table);
+    words.sort_unstable();
+    words.windows(2).all(|pair| pair[0] != pair[1])
 }
 
 /// No entry is above 50. The largest is taken without an early end, so that many are looked at side by side.

@@ -1,19 +1,21 @@
-//! The quick programs on bundles against the second program: sound bundles, full ones, damaged ones and noise.
+//! The quick programs on bundles against the second program: sound bundles, full ones, ones with equal rows, damaged
+//! ones and noise.
 
 use baseline::{bundle, listing};
-use inputs::bundles;
 use inputs::parts::{self, Parts};
 use inputs::random::Random;
+use inputs::{bundles, equal};
 
 /// How many bundles a test takes.
 const BUNDLES: usize = 1000;
 
-/// A sound bundle, a full one, a damaged one, or random bytes.
+/// A sound bundle, a full one, one with equal rows, a damaged one, or random bytes.
 fn any_bundle(random: &mut Random) -> Vec<u8> {
     match random.below(100) {
         0 => bundles::full(random),
         1..=10 => bundles::noise(random),
-        11..=50 => {
+        11..=20 => bundles::repeated(random, 1, 16),
+        21..=50 => {
             let sound = bundles::several(random, 1, 6);
             bundles::damage(random, sound)
         }
@@ -21,13 +23,15 @@ fn any_bundle(random: &mut Random) -> Vec<u8> {
     }
 }
 
-/// A thousand bundles, of which at least 300 are sound and at least 300 are not, and those at the limits.
+/// A thousand bundles, of which at least 300 are sound and at least 300 are not, those at the limits, those with equal
+/// rows and another fault, and those where equal rows are no fault.
 fn many(seed: u64) -> Vec<Vec<u8>> {
     let mut random = Random::new(seed);
     let all: Vec<Vec<u8>> = (0..BUNDLES).map(|_| any_bundle(&mut random)).collect();
     let sound = all.iter().filter(|bytes| second::bundle::tables(bytes).is_ok()).count();
     assert!(sound >= 300 && BUNDLES - sound >= 300, "{sound} of {BUNDLES} bundles are sound");
-    [all, bundles::at_limits()].concat()
+    let apart = equal::apart().iter().map(|(n, bodies)| bundles::pack(*n, bodies)).collect();
+    [all, bundles::at_limits(), equal::bundles(), apart].concat()
 }
 
 #[test]
@@ -50,12 +54,13 @@ fn listings_agree() {
     }
 }
 
-/// The parts of a sound bundle, of one of 65,535 bytes or of one too long, or parts with faults.
+/// The parts of a sound bundle, of one of 65,535 bytes or of one too long, or parts with equal rows or other faults.
 fn any_parts(random: &mut Random) -> Parts {
     match random.below(100) {
         0 => parts::longest(random),
         1 => parts::beyond(random),
-        2..=50 => {
+        2..=10 => parts::repeated(random, 1, 16),
+        11..=50 => {
             let sound = parts::several(random, 1, 6);
             parts::damage(random, sound)
         }
@@ -68,7 +73,8 @@ fn written_bundles_agree() {
     let mut random = Random::new(3);
     let all: Vec<Parts> = (0..BUNDLES).map(|_| any_parts(&mut random)).collect();
     let mut answered = 0;
-    for parts in [all, parts::at_limits()].concat() {
+    let apart = equal::apart().iter().map(|(n, bodies)| Parts::of(*n, bodies)).collect();
+    for parts in [all, parts::at_limits(), equal::parts(), apart].concat() {
         let exact = parts.length();
         for length in [0, exact - 1, exact, exact + 1, 70_000] {
             let (mut buffer, mut wanted) = (vec![200; length], vec![200; length]);

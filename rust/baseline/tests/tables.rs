@@ -1,11 +1,13 @@
 //! The quick programs on tables against the second program: what the benchmarks measure with must itself be right.
 
 use baseline::{completion, counting, division, packed, slices};
+use inputs::equal;
 use inputs::random::Random;
 use inputs::tables::{self, Table};
-use second::operations::{self, checked_rows, MOST_ROWS};
+use second::division::has_equal_rows;
+use second::operations::{self, checked_rows, rows_of, MOST_ROWS};
 
-/// A sound table with rows in any order, equal ones among them: mostly short, some of thousands of rows.
+/// A sound table with rows in any order: mostly short, some of thousands of rows.
 fn sound(random: &mut Random, n: usize) -> Table {
     match random.below(40) {
         0 => tables::long(random, n),
@@ -47,27 +49,47 @@ fn completions_agree() {
     }
 }
 
-/// A program that marks a table.
-type Marks = fn(usize, &[u8], &mut [u8]);
+#[test]
+fn marks_of_ascending_rows_agree() {
+    let mut random = Random::new(2);
+    for round in 0..3000 {
+        let table = tables::in_order(&sound(&mut random, 1 + round % 6));
+        let (mut marks, mut wanted) = (vec![9; table.rows()], vec![9; table.rows()]);
+        division::ascending_marks(table.n, &table.bytes, &mut marks);
+        operations::marks(table.n, &table.bytes, &mut wanted).expect("a sound table");
+        assert_eq!(marks, wanted, "{table:?}");
+    }
+}
+
+/// A table in order or not, perhaps with equal rows or with an entry above 50.
+fn perhaps_faulty(random: &mut Random, n: usize) -> Table {
+    let table = sound(random, n);
+    let table = match random.below(4) {
+        0 => tables::in_order(&table),
+        1 => tables::repeated(random, table),
+        _ => table,
+    };
+    perhaps_spoiled(random, table, 12)
+}
 
 #[test]
 fn marks_agree() {
-    let mut random = Random::new(2);
+    let mut random = Random::new(7);
     for round in 0..3000 {
-        let n = 1 + round % 6;
-        let unsorted = sound(&mut random, n);
-        let ascending = tables::in_order(&unsorted);
-        let programs: [(&Table, Marks); 3] = [
-            (&unsorted, division::unsorted_marks),
-            (&ascending, division::unsorted_marks),
-            (&ascending, division::ascending_marks),
-        ];
-        for (table, program) in programs {
-            let (mut marks, mut wanted) = (vec![9; table.rows()], vec![9; table.rows()]);
-            program(n, &table.bytes, &mut marks);
-            operations::marks(n, &table.bytes, &mut wanted).expect("a sound table");
-            assert_eq!(marks, wanted, "{table:?}");
-        }
+        let table = perhaps_faulty(&mut random, 1 + round % 6);
+        let (mut marks, mut wanted) = (vec![9; table.rows()], vec![9; table.rows()]);
+        let answer = operations::marks(table.n, &table.bytes, &mut wanted).ok();
+        assert_eq!(division::marks(table.n, &table.bytes, &mut marks), answer, "{table:?}");
+        assert_eq!(marks, wanted, "{table:?}");
+    }
+}
+
+#[test]
+fn equal_rows_agree() {
+    let mut random = Random::new(8);
+    let others = (0..3000).map(|round| perhaps_faulty(&mut random, 1 + round % 6));
+    for Table { n, bytes } in equal::tables().into_iter().chain(others).filter(|table| (1..=6).contains(&table.n)) {
+        assert_eq!(packed::is_distinct(n, &bytes), !has_equal_rows(&rows_of(n, &bytes)), "n = {n}, {bytes:?}");
     }
 }
 

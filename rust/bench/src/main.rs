@@ -1,11 +1,12 @@
 //! Times of the library, through its archive, beside quick plain Rust (`baseline`) and a naive program (`second`).
 //!
-//! `bench [--janet PATH] [PART ..]`, a part being completion, find, marks, inside, count, open or write; all of them
-//! where none is named. Each time is the median of several rounds in which all programs take turns, in processor time.
-//! The ratio is ours to the quickest plain program's; a line that ends in OVER breaks its limit. With `--janet` the
-//! program is run whole, timed by the wall, beside the programs `baseline` and `second`, which are looked for beside
-//! `bench` itself.
+//! `bench [--janet PATH] [PART ..]`, a part being completion, find, marks, equal, inside, count, open or write; all of
+//! them where none is named. Each time is the median of several rounds in which all programs take turns, in processor
+//! time. The ratio is ours to the quickest plain program's; a line that ends in OVER breaks its limit. With `--janet`
+//! the program is run whole, timed by the wall, beside the programs `baseline` and `second`, which are looked for
+//! beside `bench` itself.
 
+mod bundles;
 mod parts;
 
 use std::env;
@@ -16,14 +17,15 @@ use std::process::exit;
 type Part = fn() -> bool;
 
 /// The parts that can be named, in the order in which they are run.
-const PARTS: [(&str, Part); 7] = [
+const PARTS: [(&str, Part); 8] = [
     ("completion", parts::completion),
     ("find", parts::find),
     ("marks", parts::marks),
+    ("equal", parts::equal),
     ("inside", parts::inside),
     ("count", parts::count),
-    ("open", parts::open),
-    ("write", parts::write),
+    ("open", bundles::open),
+    ("write", bundles::write),
 ];
 
 fn main() {
@@ -42,7 +44,7 @@ fn main() {
     }
     if let Some(program) = janet {
         let own = env::current_exe().expect("the path of this program is known");
-        kept &= parts::janet([&program, &own.with_file_name("baseline"), &own.with_file_name("second")]);
+        kept &= bundles::janet([&program, &own.with_file_name("baseline"), &own.with_file_name("second")]);
     }
     println!("\n{}", if kept { "all limits are kept" } else { "a limit is broken: see the lines that end in OVER" });
 }

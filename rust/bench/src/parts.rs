@@ -1,15 +1,18 @@
-//! The parts of the report. Before a job is timed its results are compared, so that only right programs are measured.
+//! The parts of the report on tables. Before a job is timed its results are compared, so that only right programs are
+//! measured. Plain programs make the checks that the library makes, but where a line says other.
 
 use measure::print::{head, line, time, Limit};
-use measure::tables::{ascending, bundle, completed_near, none_divides, of_degree, powers, random, Numbers};
-use measure::turns::{hidden, keep, side_by_side, side_by_side_on_the_wall, Job};
-use std::io::Write;
-use std::path::Path;
-use std::process::{Command, Stdio};
+use measure::tables::{ascending, completed_near, none_divides, of_degree, powers, random, Numbers};
+use measure::turns::{hidden, keep, side_by_side, Job};
+
+/// What is checked of rows in any order: entries at most 50, and no two rows equal.
+fn check(n: usize, table: &[u8]) {
+    assert!(baseline::packed::entries_are_small(table) && baseline::packed::is_distinct(n, table));
+}
 
 /// Completion: the large tables, the same smaller, and small ones.
 pub fn completion() -> bool {
-    head("completion", &["packed", "slices", "second"]);
+    head("completion, entries and equal rows checked", &["packed", "slices", "second"]);
     let mut kept = true;
     for (n, degrees) in [(4, [16, 21, 27]), (6, [7, 8, 10]), (5, [9, 11, 14])] {
         for degree in degrees {
@@ -42,8 +45,14 @@ fn one_completion(name: &str, n: usize, table: &[u8]) -> bool {
     assert!(counts.iter().all(|count| *count == counts[0]) && ours == naive && packed == naive && slices == naive);
     let mut jobs: Vec<Job> = vec![
         Box::new(|| keep(rocaplanh::complete(n, hidden(table), ours))),
-        Box::new(|| keep(baseline::completion::complete(n, hidden(table), packed))),
-        Box::new(|| keep(baseline::slices::complete(n, hidden(table), slices))),
+        Box::new(|| {
+            check(n, hidden(table));
+            keep(baseline::completion::complete(n, hidden(table), packed));
+        }),
+        Box::new(|| {
+            check(n, hidden(table));
+            keep(baseline::slices::complete(n, hidden(table), slices));
+        }),
         Box::new(|| keep(second::operations::complete(n, hidden(table), naive))),
     ];
     let times = side_by_side(&mut jobs);
@@ -119,7 +128,7 @@ fn compare_finds(n: usize, table: &[u8], marks: &[u8], queries: &[u8]) {
     }
 }
 
-/// Marks of ascending and of unsorted rows. The plain program makes the same checks, or it would not know the order.
+/// Marks of ascending and of unsorted rows.
 pub fn marks() -> bool {
     head("marks", &["plain", "second"]);
     let mut kept = true;
@@ -130,21 +139,10 @@ pub fn marks() -> bool {
     for (n, rows) in [(3, 4096), (6, 4096)] {
         kept &= one_marks(&format!("n={n}, ascending random, {rows} rows"), n, &ascending(n, rows), Limit::Times(5.0));
     }
-    for rows in [1024, 2048, 4096] {
-        let mut table: Vec<&[u8]> = Vec::new();
-        let sorted = ascending(4, rows);
-        table.extend(sorted.chunks_exact(4));
-        shuffle(&mut table);
-        kept &= unsorted_marks(&format!("n=4, unsorted, {rows} rows"), 4, &table.concat());
+    for (n, rows) in [(4, 1024), (4, 2048), (4, 4096), (6, 4096)] {
+        kept &= one_marks(&format!("n={n}, unsorted, {rows} rows"), n, &random(n, rows), Limit::Times(3.0));
     }
     kept
-}
-
-fn shuffle(rows: &mut [&[u8]]) {
-    let mut numbers = Numbers(9);
-    for last in (1..rows.len()).rev() {
-        rows.swap(last, numbers.below(last + 1));
-    }
 }
 
 fn one_marks(name: &str, n: usize, table: &[u8], limit: Limit) -> bool {
@@ -152,10 +150,7 @@ fn one_marks(name: &str, n: usize, table: &[u8], limit: Limit) -> bool {
     let [ours, plain, naive] = &mut buffers;
     let mut jobs: Vec<Job> = vec![
         Box::new(|| rocaplanh::marks(n, hidden(table), ours).expect("a sound table")),
-        Box::new(|| {
-            assert!(baseline::counting::is_valid(n, hidden(table)));
-            baseline::division::ascending_marks(n, table, plain);
-        }),
+        Box::new(|| baseline::division::marks(n, hidden(table), plain).expect("a sound table")),
         Box::new(|| second::operations::marks(n, hidden(table), naive).expect("a sound table")),
     ];
     let times = side_by_side(&mut jobs);
@@ -164,38 +159,49 @@ fn one_marks(name: &str, n: usize, table: &[u8], limit: Limit) -> bool {
     line(name, &times, 1, limit)
 }
 
-fn unsorted_marks(name: &str, n: usize, table: &[u8]) -> bool {
-    let mut buffers = [vec![0; table.len() / n], vec![0; table.len() / n], vec![0; table.len() / n]];
-    let [ours, plain, naive] = &mut buffers;
-    let mut jobs: Vec<Job> = vec![
-        Box::new(|| rocaplanh::marks(n, hidden(table), ours).expect("a sound table")),
-        Box::new(|| baseline::division::unsorted_marks(n, hidden(table), plain)),
-        Box::new(|| second::operations::marks(n, hidden(table), naive).expect("a sound table")),
-    ];
-    let times = side_by_side(&mut jobs);
-    drop(jobs);
-    assert!(buffers[0] == buffers[2] && buffers[1] == buffers[2]);
-    line(name, &times, 1, Limit::Seconds(0.05))
+/// The check for equal rows. The library shows it in `inside` with a query that is too long: that is refused by 5,
+/// right behind the checks of the table.
+pub fn equal() -> bool {
+    head("entries and equal rows, nothing else", &["plain", "second"]);
+    let mut kept = true;
+    for n in [3, 4, 6] {
+        kept &= one_check(&format!("n={n}, unsorted, 4096 rows"), n, &random(n, 4096), Limit::Times(1.0));
+    }
+    for n in [3, 4, 6] {
+        kept &= one_check(&format!("n={n}, ascending, 4096 rows"), n, &ascending(n, 4096), Limit::None);
+    }
+    kept
 }
 
-/// Inside, where no row divides the query and each row is looked at to its last exponent. The plain programs check the
-/// entries too.
+fn one_check(name: &str, n: usize, table: &[u8], limit: Limit) -> bool {
+    let query = vec![0; n + 1];
+    assert_eq!(rocaplanh::inside(n, table, &query).map_err(|refusal| refusal.number()), Err(5));
+    assert_eq!(second::operations::inside(n, table, &query), Err(5));
+    let mut jobs: Vec<Job> = vec![
+        Box::new(|| keep(rocaplanh::inside(n, hidden(table), &query))),
+        Box::new(|| check(n, hidden(table))),
+        Box::new(|| keep(second::operations::inside(n, hidden(table), &query))),
+    ];
+    let times = side_by_side(&mut jobs);
+    line(name, &times, 1, limit)
+}
+
+/// Inside, where no row divides the query and each row is looked at to its last exponent. The rows are unsorted.
 pub fn inside() -> bool {
-    head("inside, none divides", &["packed", "rows", "second"]);
+    head("inside, none divides, checks included", &["packed", "rows", "second"]);
     for (n, rows) in [(4, 1024), (4, 2048), (4, 4096), (6, 4096)] {
         let (table, query) = none_divides(n, rows);
         assert_eq!(rocaplanh::inside(n, &table, &query), Ok(None));
         assert_eq!(baseline::packed::first_divisor(n, &table, &query), None);
         assert_eq!(baseline::division::first_divisor(n, &table, &query), None);
-        let checked = |table: &[u8]| assert!(baseline::packed::entries_are_small(table));
         let mut jobs: Vec<Job> = vec![
             Box::new(|| keep(rocaplanh::inside(n, hidden(&table), hidden(&query)))),
             Box::new(|| {
-                checked(hidden(&table));
+                check(n, hidden(&table));
                 keep(baseline::packed::first_divisor(n, hidden(&table), hidden(&query)));
             }),
             Box::new(|| {
-                checked(hidden(&table));
+                check(n, hidden(&table));
                 keep(baseline::division::first_divisor(n, hidden(&table), hidden(&query)));
             }),
             Box::new(|| keep(second::operations::inside(n, hidden(&table), hidden(&query)))),
@@ -225,81 +231,4 @@ pub fn count() -> bool {
         }
     }
     kept
-}
-
-/// Opening the last table of a bundle.
-pub fn open() -> bool {
-    head("open the last of 16 tables", &["plain", "second"]);
-    for bytes in [16_384, 32_768, 65_535] {
-        let bytes = bundle(3, bytes, 51);
-        let ours = rocaplanh::open(&bytes, 15).expect("a sound bundle");
-        assert_eq!(Some((ours.n, ours.body)), baseline::bundle::open(&bytes, 15));
-        let mut jobs: Vec<Job> = vec![
-            Box::new(|| keep(rocaplanh::open(hidden(&bytes), 15))),
-            Box::new(|| keep(baseline::bundle::open(hidden(&bytes), 15))),
-            Box::new(|| keep(second::bundle::open(hidden(&bytes), 15))),
-        ];
-        let times = side_by_side(&mut jobs);
-        line(&format!("{} bytes", bytes.len()), &times, 1, Limit::None);
-    }
-    true
-}
-
-/// Writing a bundle of 16 tables with n = 1, so that their bytes make up any length.
-pub fn write() -> bool {
-    head("write a bundle of 16 tables", &["plain", "second"]);
-    let mut kept = true;
-    for bytes in [16_384, 32_768, 65_535] {
-        kept &= one_write(&bundle(1, bytes, 51));
-    }
-    kept
-}
-
-/// A bundle with n = 1, taken apart and written again.
-fn one_write(bundle: &[u8]) -> bool {
-    let open = |table| baseline::bundle::open(bundle, table).expect("a sound bundle").1;
-    let bodies = (0..16).map(open).collect::<Vec<&[u8]>>();
-    let counts: Vec<u16> = bodies.iter().map(|body| body.len() as u16).collect();
-    let (counts, tables) = (&counts[..], &bodies.concat()[..]);
-    let mut buffers = [vec![0; bundle.len()], vec![0; bundle.len()], vec![0; bundle.len()]];
-    let [ours, plain, naive] = &mut buffers;
-    let lengths = [
-        rocaplanh::write(1, counts, tables, ours).ok(),
-        baseline::bundle::write(1, counts, tables, plain),
-        second::writer::write(1, counts, tables, naive).ok(),
-    ];
-    assert!(lengths == [Some(bundle.len()); 3] && ours == bundle && plain == bundle && naive == bundle);
-    let mut jobs: Vec<Job> = vec![
-        Box::new(|| keep(rocaplanh::write(1, hidden(counts), hidden(tables), ours))),
-        Box::new(|| keep(baseline::bundle::write(1, hidden(counts), hidden(tables), plain))),
-        Box::new(|| keep(second::writer::write(1, hidden(counts), hidden(tables), naive))),
-    ];
-    let times = side_by_side(&mut jobs);
-    line(&format!("{} bytes", bundle.len()), &times, 1, Limit::Times(3.0))
-}
-
-/// The program `janet` whole, with the start of a process, beside the programs `baseline` and `second`.
-pub fn janet(programs: [&Path; 3]) -> bool {
-    head("janet, whole runs", &["plain", "second"]);
-    let mut kept = true;
-    let listing: &[u8] = &[2, 1, 2, 0, 6, 0, 2, 1, 0, 2];
-    let others = [16_384, 32_768, 65_535].map(|bytes| ("16 tables", bundle(3, bytes, 51)));
-    let small = [("16 tables, n=4, entries to 20", bundle(4, 600, 21))];
-    for (name, bytes) in [("the listing", listing.to_vec())].into_iter().chain(small).chain(others) {
-        let written = programs.map(|program| run(program, &bytes));
-        assert!(written.iter().all(|text| *text == written[0]), "the programs write different listings");
-        let mut jobs: Vec<Job> =
-            programs.iter().map(|program| Box::new(|| drop(run(program, &bytes))) as Job).collect();
-        let times = side_by_side_on_the_wall(&mut jobs);
-        let name = format!("{name}, {} to {} bytes", bytes.len(), written[0].len());
-        kept &= line(&name, &times, 1, Limit::Seconds(1.0));
-    }
-    kept
-}
-
-/// What a program writes for a bundle; the programs read all before they write.
-fn run(program: &Path, bundle: &[u8]) -> Vec<u8> {
-    let mut child = Command::new(program).stdin(Stdio::piped()).stdout(Stdio::piped()).spawn().expect("it can be run");
-    child.stdin.take().expect("standard input is piped").write_all(bundle).expect("it reads its input");
-    child.wait_with_output().expect("it ends").stdout
 }

@@ -18,7 +18,7 @@ pub fn all(random: &mut Random, tables: usize, report: &mut Report) {
 fn small(random: &mut Random, n: usize) -> Table {
     let mut table = tables::short(random, n);
     table.bytes.iter_mut().for_each(|entry| *entry %= 5);
-    table
+    tables::once_each(&table)
 }
 
 /// All monomials of n exponents up to `largest`.

@@ -1,16 +1,16 @@
 //! Random calls of every operation, each answered by the archive and by the second program.
 //!
-//! - `many`: calls on short tables, with long and damaged ones among them.
-//! - `limits`: tables of bundles at the limits and past them, and bundles written from parts that are.
+//! - `many`: calls on short tables, with long and damaged ones and such with equal rows among them.
+//! - `fixed`: bundles and parts at the limits and past them, and all that has equal rows together with another fault.
 //! - `large`: for n from 3 to 6, tables whose completion has more than 500 rows, under every operation.
 
 use crate::call::{by_archive, by_second, Call};
 use crate::report::Report;
 use crate::tally::Tally;
-use inputs::bundles;
 use inputs::parts::{self, Parts};
 use inputs::random::Random;
 use inputs::tables::{self, Table};
+use inputs::{bundles, equal};
 
 /// Makes a call both ways, compares all that it leaves behind, and counts it.
 fn compare(call: Call, report: &mut Report, tally: &mut Tally) {
@@ -52,6 +52,7 @@ fn any_table(random: &mut Random) -> Table {
         61..=90 => tables::in_order(&tables::short(random, n)),
         _ => tables::short(random, n),
     };
+    let table = if random.once_in(6) { tables::repeated(random, table) } else { table };
     perhaps_damaged(random, table, 5)
 }
 
@@ -62,6 +63,10 @@ fn ordered_table(random: &mut Random) -> Table {
         0 | 1 => tables::in_order(&tables::short(random, n)),
         2..=6 => nearly_complete(random, n),
         7 => tables::short(random, n),
+        8 => {
+            let complete = tables::complete(random, n);
+            tables::repeated(random, complete)
+        }
         _ => tables::complete(random, n),
     };
     perhaps_damaged(random, table, 12)
@@ -169,13 +174,18 @@ fn steady_call(random: &mut Random) -> Call {
 }
 
 fn open_call(random: &mut Random) -> Call {
-    let bundle = match random.below(40) {
+    let bundle = match random.below(240) {
         0 => bundles::full(random),
-        1..=4 => bundles::noise(random),
-        5..=24 => {
+        1..=24 => bundles::noise(random),
+        25..=126 => {
             let sound = bundles::several(random, 1, 4);
             bundles::damage(random, sound)
         }
+        127..=150 => {
+            let equal = bundles::repeated(random, 1, 4);
+            bundles::damage(random, equal)
+        }
+        151..=174 => bundles::repeated(random, 1, 16),
         _ => bundles::several(random, 1, 16),
     };
     let tables = bundle.get(1).map_or(0, |&count| usize::from(count));
@@ -193,19 +203,25 @@ fn write_call(random: &mut Random) -> Call {
     write_of(&parts, buffer)
 }
 
-/// The parts of a sound bundle, damaged ones, or ones of a bundle at the limit of its bytes or past it.
+/// The parts of a sound bundle, ones with equal rows or other faults, or ones of a bundle at the limit of its bytes or
+/// past it.
 fn any_parts(random: &mut Random) -> Parts {
-    match random.below(80) {
+    match random.below(240) {
         0 => parts::longest(random),
         1 => parts::beyond(random),
         2 => {
             let long = parts::beyond(random);
             parts::damage(random, long)
         }
-        3..=46 => {
+        3..=122 => {
             let sound = parts::several(random, 1, 4);
             parts::damage(random, sound)
         }
+        123..=140 => {
+            let equal = parts::repeated(random, 1, 4);
+            parts::damage(random, equal)
+        }
+        141..=158 => parts::repeated(random, 1, 16),
         _ => parts::several(random, 1, 16),
     }
 }
@@ -215,20 +231,44 @@ fn write_of(parts: &Parts, buffer: usize) -> Call {
     Call::Write { n: parts.n, counts: parts.counts.clone(), tables: parts.tables.clone(), buffer }
 }
 
-/// Opens tables of the bundles at the limits and past them, and writes bundles from such parts into buffers of all
-/// sizes.
-pub fn limits(report: &mut Report, tally: &mut Tally) {
-    for bundle in bundles::at_limits() {
+/// Opens tables of bundles at the limits and past them and of ones with equal rows, writes bundles from such parts into
+/// buffers of all sizes, and makes every other call on tables with equal rows.
+pub fn fixed(report: &mut Report, tally: &mut Tally) {
+    equal::tables().iter().for_each(|table| with_equal_rows(table, report, tally));
+    let apart = equal::apart();
+    let shared = apart.iter().map(|(n, bodies)| bundles::pack(*n, bodies));
+    for bundle in bundles::at_limits().into_iter().chain(equal::bundles()).chain(shared) {
         for table in [0, 1, 2, 15, 16, 17] {
             compare(Call::Open { bundle: bundle.clone(), table }, report, tally);
         }
     }
-    for parts in parts::at_limits() {
+    let shared = apart.iter().map(|(n, bodies)| Parts::of(*n, bodies));
+    for parts in parts::at_limits().into_iter().chain(equal::parts()).chain(shared) {
         let exact = parts.length();
         for buffer in [0, exact - 1, exact, exact + 1, exact + 70_000] {
             compare(write_of(&parts, buffer), report, tally);
         }
     }
+}
+
+/// A table under each operation, with buffers and queries of each length: right, too short, too long.
+fn with_equal_rows(given: &Table, report: &mut Report, tally: &mut Tally) {
+    let (n, rows, table) = (given.n, given.rows(), || given.bytes.clone());
+    for buffer in [0, rows.saturating_sub(1), rows, rows + 1] {
+        compare(Call::Marks { n, table: table(), buffer }, report, tally);
+    }
+    for length in [0, n.saturating_sub(1), n, n + 1] {
+        compare(Call::Inside { n, table: table(), query: vec![1; length] }, report, tally);
+        compare(Call::Find { n, table: table(), query: vec![1; length] }, report, tally);
+    }
+    for buffer in [0, n.saturating_sub(1), given.bytes.len(), 24_576] {
+        compare(Call::Complete { n, table: table(), buffer }, report, tally);
+    }
+    for degree in [9, 301] {
+        compare(Call::Count { n, table: table(), degree }, report, tally);
+        compare(Call::Polynomial { n, table: table(), degree }, report, tally);
+    }
+    compare(Call::Steady { n, table: table() }, report, tally);
 }
 
 /// For each n from 3 to 6, tables until `wanted` of them have been completed to more than 500 rows.

@@ -53,8 +53,14 @@ fn a_to_e(report: &mut Report) {
     let opened = open(&bundle, 0).map(|table| (table.n, table.rows, table.body.to_vec()));
     report.same("D: open", &opened, &Ok((2, 2, LISTED.to_vec())), &"D");
     report.same("D: written", &written(2, &[2], &LISTED), &Ok(bundle.to_vec()), &"D");
-    report.same("E: completed", &completed(2, &[1, 0, 1, 0]), &Ok(vec![1, 0]), &"E");
     report.same("inside", &inside(2, &LISTED, &[1, 2]), &Ok(Some(1)), &"D");
+    let twice = [1, 0, 1, 0];
+    report.same("E: completed", &number(completed(2, &twice)), &12, &"E");
+    report.same("E: marks", &number(marks(2, &twice, &mut [0; 2])), &12, &"E");
+    report.same("E: inside", &number(inside(2, &twice, &[1, 0])), &12, &"E");
+    report.same("E: open", &number(open(&[2, 1, 2, 0, 6, 0, 1, 0, 1, 0], 0)), &12, &"E");
+    report.same("E: written", &number(written(2, &[2], &twice)), &12, &"E");
+    report.same("E: find", &number(find(2, &twice, &[1, 0])), &6, &"E");
 }
 
 fn f_to_j(report: &mut Report) {

@@ -46,8 +46,9 @@ fn main() {
     boxes::all(&mut Random::new(wishes.seed ^ 1), 400 * wishes.times, &mut report);
     part("small boxes");
     calls::many(&mut Random::new(wishes.seed ^ 2), 270_000 * wishes.times, &mut report, &mut tally);
-    calls::limits(&mut report, &mut tally);
     part("random calls");
+    calls::fixed(&mut report, &mut tally);
+    part("limits and equal rows");
     calls::large(&mut Random::new(wishes.seed ^ 3), 110 * wishes.times, &mut report, &mut tally);
     part("large tables");
     rounds::all(&mut Random::new(wishes.seed ^ 6), 1500 * wishes.times, &mut report);

@@ -4,9 +4,9 @@
 //! - A bundle that it accepts is opened by it and written again: the same length and the same bytes.
 
 use crate::report::Report;
-use inputs::bundles;
 use inputs::parts::Parts;
 use inputs::random::Random;
+use inputs::{bundles, equal};
 use rocaplanh::{open, write, written, Opened, MOST_BUNDLE_BYTES};
 
 /// How many trips each way a run must make.
@@ -26,8 +26,8 @@ struct Trips {
 /// At least `wanted` trips each way; fails where too few bundles made them.
 pub fn all(random: &mut Random, wanted: usize, report: &mut Report) {
     let (mut from_tables, mut from_bundles) = (Trips::default(), Trips::default());
-    for _ in 0..wanted {
-        let (n, bodies) = any_tables(random);
+    let others = (0..wanted).map(|_| any_tables(random));
+    for (n, bodies) in equal::apart().into_iter().chain(others) {
         from_tables.add(written_and_opened(n, &bodies, report));
     }
     let fixed = [vec![bundles::paper()], bundles::at_limits()].concat();

@@ -3,14 +3,14 @@
 
 use crate::process::{at_once, run, Left};
 use crate::report::Report;
-use inputs::bundles;
 use inputs::random::Random;
+use inputs::{bundles, equal};
 use second::listing::listing;
 use std::collections::BTreeMap;
 use std::path::Path;
 
 /// What a bundle must give at least once, apart from listings: refusals of bundles and of single tables.
-const REFUSALS: [&str; 7] = ["R 1", "R 3", "R 4", "R 9", "R 10", "R 11", "T R 8"];
+const REFUSALS: [&str; 8] = ["R 1", "R 3", "R 4", "R 9", "R 10", "R 11", "R 12", "T R 8"];
 
 /// What the runs were about.
 #[derive(Default)]
@@ -43,26 +43,31 @@ pub fn all(program: &Path, random: &mut Random, wanted: usize, report: &mut Repo
     }
 }
 
-/// Bundles at the limits and past them, the paper's own with every beginning of it, one with tables refused by 8.
+/// Bundles at the limits and past them, the paper's own with every beginning of it, one with tables refused by 8; ones
+/// with equal rows and each other fault, and ones where equal rows are no fault.
 fn fixed(random: &mut Random) -> Vec<Vec<u8>> {
     let full = bundles::full(random);
     let mut beyond = full.clone();
     beyond.push(0);
     let paper = bundles::paper();
     let cut: Vec<Vec<u8>> = (0..paper.len()).map(|length| paper[..length].to_vec()).collect();
-    let powers = bundles::pack(4, &[bundles::powers(4).bytes, vec![1, 2, 3, 4], bundles::powers(4).bytes]);
+    let refused_by_8 = bundles::powers(4).bytes;
+    let [powers, twice] = [[1, 2, 3, 4, 4, 3, 2, 1], [1, 2, 3, 4, 1, 2, 3, 4]]
+        .map(|rows| bundles::pack(4, &[refused_by_8.clone(), rows.to_vec(), refused_by_8.clone()]));
     assert!(full.len() == second::bundle::MOST_BYTES && second::bundle::tables(&full).is_ok());
-    [vec![full, beyond, paper, powers], cut, bundles::at_limits()].concat()
+    let apart = equal::apart().iter().map(|(n, bodies)| bundles::pack(*n, bodies)).collect();
+    [vec![full, beyond, paper, powers, twice], cut, bundles::at_limits(), equal::few_bundles(), apart].concat()
 }
 
-/// A sound bundle of several tables, a damaged one, or noise.
+/// A sound bundle of several tables, a damaged one, one with equal rows, or noise.
 fn any_bundle(random: &mut Random) -> Vec<u8> {
-    match random.below(10) {
+    match random.below(11) {
         0 => bundles::noise(random),
         1..=3 => {
             let sound = bundles::several(random, 2, 6);
             bundles::damage(random, sound)
         }
+        4 => bundles::repeated(random, 2, 16),
         _ => bundles::several(random, 2, 16),
     }
 }

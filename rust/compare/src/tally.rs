@@ -3,11 +3,21 @@
 use crate::call::{Answer, Call, OPERATIONS};
 use rocaplanh::NO_ROW;
 
-/// Refusal numbers run from 0 (an answer) to 11.
-const NUMBERS: usize = 12;
+/// Refusal numbers run from 0 (an answer) to 12.
+const NUMBERS: usize = 13;
 
-/// The refusals that the writer may give.
-const WRITE_REFUSALS: [usize; 6] = [1, 2, 3, 4, 8, 9];
+/// The refusals that each of the operations may give.
+const REFUSALS: [&[usize]; OPERATIONS.len()] = [
+    &[1, 2, 3, 4, 12, 8],
+    &[1, 2, 3, 4, 12, 5],
+    &[1, 2, 3, 4, 12, 8],
+    &[1, 2, 3, 4, 5, 6],
+    &[1, 2, 3, 4, 5, 6, 7],
+    &[1, 2, 3, 4, 5, 6, 7],
+    &[1, 2, 3, 4, 6, 7],
+    &[9, 1, 3, 10, 11, 4, 12, 5],
+    &[1, 9, 2, 3, 4, 12, 8],
+];
 
 /// Counts of what the calls gave.
 #[derive(Default)]
@@ -99,12 +109,12 @@ impl Tally {
         for number in 1..NUMBERS {
             demand(self.given(number) >= 1000, format!("refusal {number} was given fewer than 1,000 times"));
         }
-        for (name, row) in OPERATIONS.iter().zip(&self.answers) {
+        for ((name, row), numbers) in OPERATIONS.iter().zip(&self.answers).zip(REFUSALS) {
             demand(row[0] >= 1000, format!("{name} answered fewer than 1,000 times"));
-        }
-        for number in WRITE_REFUSALS {
-            let enough = self.answers("write")[number] >= 1000;
-            demand(enough, format!("write was refused by {number} fewer than 1,000 times"));
+            for &number in numbers {
+                let least = if *name == "write" || number == 12 { 1000 } else { 100 };
+                demand(row[number] >= least, format!("{name} was refused by {number} fewer than {least} times"));
+            }
         }
         demand(self.adding * 5 >= self.called("complete"), "fewer than a fifth of the completions add rows".into());
         for n in 3..=6 {

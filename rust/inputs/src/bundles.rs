@@ -1,9 +1,10 @@
 //! Random bundles: sound ones, full ones, and ones with the faults that the refusals name.
 //!
 //! - `pack`: the bundle of some tables. `several`: a sound bundle of several short tables.
-//! - `full`: one of exactly 65,535 bytes. `damage`: a bundle with a fault or two. `noise`: random bytes.
+//! - `full`: one of exactly 65,535 bytes. `repeated`: one with equal rows in a table.
+//! - `damage`: a bundle with a fault or two. `noise`: random bytes.
 //! - `at_limits`: bundles at each limit and just past it. `paper`: the paper's own.
-//! - `several_tables`, `full_tables`, `spread`: the tables alone.
+//! - `several_tables`, `full_tables`, `repeated_tables`, `spread`: the tables alone.
 
 use crate::random::Random;
 use crate::tables::{self, Table};
@@ -34,14 +35,34 @@ pub fn several(random: &mut Random, least: usize, most: usize) -> Vec<u8> {
     pack(n, &bodies)
 }
 
-/// The n and the tables of such a bundle; drawn again where they are too long for one, as complete tables seldom are.
+/// The n and the tables of such a bundle, one sometimes at a second place; drawn again where they are too long for one,
+/// as complete tables seldom are.
 pub fn several_tables(random: &mut Random, least: usize, most: usize) -> (usize, Vec<Vec<u8>>) {
     let n = random.between(1, 6);
     let count = random.between(least, most);
-    let bodies: Vec<Vec<u8>> = (0..count).map(|_| any_table(random, n).bytes).collect();
+    let mut bodies: Vec<Vec<u8>> = (0..count).map(|_| any_table(random, n).bytes).collect();
+    if random.once_in(4) {
+        bodies[random.below(count)] = bodies[random.below(count)].clone();
+    }
     if 2 + 4 * count + bodies.iter().map(Vec::len).sum::<usize>() > MOST_BYTES {
         return several_tables(random, least, most);
     }
+    (n, bodies)
+}
+
+/// A bundle of several tables, one of which has equal rows.
+pub fn repeated(random: &mut Random, least: usize, most: usize) -> Vec<u8> {
+    let (n, bodies) = repeated_tables(random, least, most);
+    pack(n, &bodies)
+}
+
+/// The n and the tables of such a bundle, seldom of one of 65,535 bytes. The first, the last or any has equal rows.
+pub fn repeated_tables(random: &mut Random, least: usize, most: usize) -> (usize, Vec<Vec<u8>>) {
+    let longest = random.once_in(60);
+    let (n, mut bodies) = if longest { full_tables(random) } else { several_tables(random, least, most) };
+    let (any, last) = (random.below(bodies.len()), bodies.len() - 1);
+    let body = &mut bodies[random.pick(&[0, any, last])];
+    *body = tables::repeated(random, Table { n, bytes: body.clone() }).bytes;
     (n, bodies)
 }
 
@@ -65,18 +86,24 @@ pub fn at_limits() -> Vec<Vec<u8>> {
     let none = [0, 1, 0, 0, 6, 0].to_vec();
     let variables = [1, 6, 7].map(|n| pack(n, &[vec![1; n], vec![2; n]]));
     let tables = [0, 1, MOST_TABLES, MOST_TABLES + 1].map(|count| pack(3, &vec![Vec::new(); count]));
-    let rows = [MOST_ROWS, MOST_ROWS + 1].map(|rows| pack(1, &[vec![7], vec![7; rows]]));
-    let bytes = [MOST_BYTES, MOST_BYTES + 1].map(|bytes| pack(1, &spread(1, bytes, || 3)));
+    let rows = [MOST_ROWS, MOST_ROWS + 1].map(|rows| pack(3, &[vec![7; 3], tables::counted(3, rows)]));
+    let bytes = [(3, MOST_BYTES), (5, MOST_BYTES + 1)].map(|(n, bytes)| pack(n, &spread_counted(n, bytes)));
     let entries = [50, 51].map(|entry| pack(2, &[vec![1, 2], vec![3, entry]]));
     let all = [variables.as_slice(), &tables, &rows, &bytes, &entries].concat();
     [vec![none], all].concat()
 }
 
-/// The bodies of 16 tables that make a bundle of so many bytes, or a few less where n does not divide them.
-pub fn spread(n: usize, bytes: usize, mut entry: impl FnMut() -> u8) -> Vec<Vec<u8>> {
+/// The bodies of 16 tables that make a bundle of so many bytes, or a few less where n does not divide them. Each has a
+/// number of rows, from which it is made.
+pub fn spread(n: usize, bytes: usize, body: impl FnMut(usize) -> Vec<u8>) -> Vec<Vec<u8>> {
     let rows = (bytes - 2 - 4 * MOST_TABLES) / n;
     let rows_of = |table: usize| rows / MOST_TABLES + usize::from(table < rows % MOST_TABLES);
-    (0..MOST_TABLES).map(|table| (0..rows_of(table) * n).map(|_| entry()).collect()).collect()
+    (0..MOST_TABLES).map(rows_of).map(body).collect()
+}
+
+/// The same with the first rows of all in order, as many as each table has.
+pub fn spread_counted(n: usize, bytes: usize) -> Vec<Vec<u8>> {
+    spread(n, bytes, |rows| tables::counted(n, rows))
 }
 
 /// A sound bundle of exactly 65,535 bytes.
@@ -85,11 +112,21 @@ pub fn full(random: &mut Random) -> Vec<u8> {
     pack(n, &bodies)
 }
 
-/// The n and the tables of such a bundle: 16 of them, and n such that the bodies fill what the header leaves.
+/// The n and the tables of such a bundle: 16 of them, in order or not, and n such that the bodies fill what the header
+/// leaves.
 pub fn full_tables(random: &mut Random) -> (usize, Vec<Vec<u8>>) {
-    let n = random.pick(&[1, 3]);
-    let largest = random.pick(&[1, 6, 50]);
-    (n, spread(n, MOST_BYTES, || random.byte(largest)))
+    let n = 3;
+    let largest = random.pick(&[12, 20, 50]);
+    let ordered = random.once_in(3);
+    let body = |rows: usize| {
+        let table = tables::rows(random, n, rows, largest);
+        if ordered {
+            tables::in_order(&table).bytes
+        } else {
+            table.bytes
+        }
+    };
+    (n, spread(n, MOST_BYTES, body))
 }
 
 /// Random bytes, with a plausible beginning half of the time.

@@ -1,14 +1,15 @@
 //! What a bundle is written from: sound parts, those of the longest bundles, and ones with the faults that the writer's
 //! refusals name.
 //!
-//! - `Parts`: n, the counts and the tables. `several`: those of short tables.
+//! - `Parts`: n, the counts and the tables. `several`: those of short tables. `repeated`: one of them with equal rows.
 //! - `longest`: those of a bundle of 65,535 bytes. `beyond`: those of one that is too long.
 //! - `damage`: parts with a fault or several. `at_limits`: parts at each limit and just past it.
 
-use crate::bundles::{full_tables, several_tables, spread};
+use crate::bundles::{full_tables, repeated_tables, several_tables, spread, spread_counted};
 use crate::random::Random;
+use crate::tables;
 use second::bundle::{MOST_BYTES, MOST_TABLES};
-use second::operations::MOST_ROWS;
+use second::operations::{LARGEST_ENTRY, MOST_ROWS};
 
 /// The parts of a bundle.
 #[derive(Clone, Debug)]
@@ -32,10 +33,13 @@ impl Parts {
         2 + 4 * self.counts.len() + self.tables.len()
     }
 
-    /// Cuts or lengthens the tables to the bytes that n and the counts demand; of a damaged n at most 8 a row.
+    /// Cuts or lengthens the tables to the bytes that n and the counts demand; of a damaged n at most 8 a row. Rows
+    /// that are added have large entries, so that they seldom equal those before them.
     fn fit(&mut self) {
         let rows: usize = self.counts.iter().map(|&count| usize::from(count)).sum();
-        self.tables.resize(self.n.min(8) * rows, 2);
+        let large = tables::counted(self.n.min(8), rows).into_iter().map(|entry| LARGEST_ENTRY - entry);
+        self.tables.truncate(large.len());
+        self.tables.extend(large.skip(self.tables.len()));
     }
 
     /// The same with these bytes.
@@ -51,6 +55,12 @@ pub fn several(random: &mut Random, least: usize, most: usize) -> Parts {
     Parts::of(n, &bodies)
 }
 
+/// The parts of such a bundle, but with equal rows in a table.
+pub fn repeated(random: &mut Random, least: usize, most: usize) -> Parts {
+    let (n, bodies) = repeated_tables(random, least, most);
+    Parts::of(n, &bodies)
+}
+
 /// The parts of a sound bundle of exactly 65,535 bytes.
 pub fn longest(random: &mut Random) -> Parts {
     let (n, bodies) = full_tables(random);
@@ -59,10 +69,12 @@ pub fn longest(random: &mut Random) -> Parts {
 
 /// The parts of a bundle of exactly 65,536 bytes, or of a few more; sound but for that.
 pub fn beyond(random: &mut Random) -> Parts {
-    let n = random.pick(&[1, 2, 5]);
     let rows = random.pick(&[0, 0, 0, 1, 13]);
-    let largest = random.pick(&[1, 50]);
-    Parts::of(n, &spread(n, MOST_BYTES + 1 + n * rows, || random.byte(largest)))
+    if random.once_in(3) {
+        return Parts::of(2, &spread_counted(2, MOST_BYTES + 1 + 2 * rows));
+    }
+    let largest = random.pick(&[3, 50]);
+    Parts::of(5, &spread(5, MOST_BYTES + 1 + 5 * rows, |rows| tables::rows(random, 5, rows, largest).bytes))
 }
 
 /// Parts with one fault or several; of n, of the number of tables, of their bytes, of a count, of an entry.
@@ -139,9 +151,9 @@ pub fn at_limits() -> Vec<Parts> {
     let variables = [0, 1, 6, 7, 8].map(|n| sized(n, &[1, 2]).fitted());
     let far = [255, 256, 258, usize::MAX, 1 << 32].map(|n| sized(n, &[0]));
     let tables = [0, 1, MOST_TABLES, MOST_TABLES + 1, 256, 257].map(|count| sized(3, &vec![0; count]));
-    let rows = [MOST_ROWS as u16, 4097, 65_535].map(|rows| sized(1, &[1, rows]).fitted());
-    let bytes = [MOST_BYTES, MOST_BYTES + 1].map(|bytes| Parts::of(1, &spread(1, bytes, || 3)));
-    let most = [1, 6].map(|n| sized(n, &[MOST_ROWS as u16; MOST_TABLES]).fitted());
+    let rows = [MOST_ROWS as u16, 4097, 65_535].map(|rows| sized(3, &[1, rows]).fitted());
+    let bytes = [(3, MOST_BYTES), (5, MOST_BYTES + 1)].map(|(n, bytes)| Parts::of(n, &spread_counted(n, bytes)));
+    let most = [3, 6].map(|n| sized(n, &[MOST_ROWS as u16; MOST_TABLES]).fitted());
     let entries = [50, 51].map(|entry| Parts::of(2, &[vec![1, 2], vec![3, entry]]));
     let wrapping = [sized(1, &[MOST_ROWS as u16; MOST_TABLES]), sized(2, &[65_535, 1])];
     let all = [&variables[..], &far, &tables, &rows, &bytes, &most, &entries, &wrapping, &twofold()];

@@ -1,13 +1,17 @@
-//! Random tables: short and long, in order or not, with equal rows, complete, nearly complete.
+//! Random tables: short and long, in order or not, complete, nearly complete, with equal rows.
 //!
-//! - `short`: a few random rows. `ascending`: the same in order, once each.
-//! - `complete`: the completed table of a few random rows. `nearly_complete`: one with a small change.
+//! - `short`: a few random rows. `in_order`: a table's rows in order, once each. `once_each`: in their own order.
+//! - `complete`: the completed table of a few random rows. `nearly`: one with a small change.
 //! - `long`: up to 4,096 rows. `growing`: a few rows whose completion is large.
+//! - `rows`: random rows. `counted`: the first rows of all in order.
+//! - `repeated`: a table with equal rows. Else there are none but where `nearly` or `damage` makes them.
 //! - `damage`: a table and n with faults that the refusals name.
 
 use crate::random::Random;
 use second::completion::completed;
-use second::operations::{checked_rows, MOST_ROWS};
+use second::division::VARIABLES;
+use second::operations::{checked_rows, LARGEST_ENTRY, MOST_ROWS};
+use std::collections::HashSet;
 
 /// A number of variables and a table's bytes.
 #[derive(Clone, Debug)]
@@ -28,6 +32,11 @@ impl Table {
     pub fn row(&self, row: usize) -> &[u8] {
         &self.bytes[row * self.n..(row + 1) * self.n]
     }
+
+    /// Writes a row over another.
+    pub fn copy_row(&mut self, from: usize, to: usize) {
+        self.bytes.copy_within(from * self.n..(from + 1) * self.n, to * self.n);
+    }
 }
 
 /// The largest entry of a short table: mostly small, so that most completions have tens of rows and not thousands.
@@ -41,26 +50,76 @@ fn largest_entry(random: &mut Random, n: usize) -> u8 {
     }
 }
 
-/// Rows with entries up to `largest`.
-fn rows(random: &mut Random, n: usize, count: usize, largest: u8) -> Table {
-    Table { n, bytes: (0..n * count).map(|_| random.byte(largest)).collect() }
+/// Rows with entries up to `largest`, no two equal: so many, or all that there are.
+pub fn rows(random: &mut Random, n: usize, count: usize, largest: u8) -> Table {
+    let all = (usize::from(largest) + 1).pow(n as u32);
+    let mut before = HashSet::new();
+    let mut bytes = Vec::new();
+    while before.len() < count.min(all) {
+        let mut row = [0; VARIABLES];
+        row[..n].fill_with(|| random.byte(largest));
+        if before.insert(row) {
+            bytes.extend(&row[..n]);
+        }
+    }
+    Table { n, bytes }
 }
 
-/// A few random rows, sometimes with equal ones, sometimes with boundary entries.
+/// The first rows of all in order, so many; behind the last of all they begin again.
+pub fn counted(n: usize, rows: usize) -> Vec<u8> {
+    let mut row = vec![0; n];
+    let mut bytes = Vec::with_capacity(n * rows);
+    for _ in 0..rows {
+        bytes.extend(&row);
+        let raised = row.iter().rposition(|&entry| entry < LARGEST_ENTRY);
+        row[raised.map_or(0, |place| place + 1)..].fill(0);
+        if let Some(place) = raised {
+            row[place] += 1;
+        }
+    }
+    bytes
+}
+
+/// A few random rows, sometimes with boundary entries.
 pub fn short(random: &mut Random, n: usize) -> Table {
     let largest = largest_entry(random, n);
     let most = if largest == 50 && n > 2 { 3 } else { 10 };
     let count = random.between(0, most);
     let mut table = rows(random, n, count, largest);
-    if count > 0 && random.once_in(5) {
-        let repeated = table.row(random.below(count)).to_vec();
-        table.bytes.extend(repeated);
-    }
     if count > 0 && random.once_in(12) {
         let at = random.below(table.bytes.len());
         table.bytes[at] = 50;
     }
+    once_each(&table)
+}
+
+/// The table with equal rows: side by side, the first and the last, any two, three, or all of them.
+pub fn repeated(random: &mut Random, mut table: Table) -> Table {
+    if table.rows() < 2 {
+        table.bytes = vec![random.byte(5); 2 * table.n];
+    }
+    let rows = table.rows();
+    let row = random.below(rows);
+    match random.below(5) {
+        0 => table.copy_row(row, (row + 1) % rows),
+        1 => table.copy_row(0, rows - 1),
+        2 => table.copy_row(row, another(random, row, rows)),
+        3 => (0..2).for_each(|_| table.copy_row(row, another(random, row, rows))),
+        _ => (0..rows).for_each(|other| table.copy_row(row, other)),
+    }
     table
+}
+
+/// Another row of so many.
+fn another(random: &mut Random, row: usize, rows: usize) -> usize {
+    (row + random.between(1, rows - 1)) % rows
+}
+
+/// The rows in their order, without those that stand there before.
+pub fn once_each(table: &Table) -> Table {
+    let mut before = HashSet::new();
+    let rows: Vec<&[u8]> = table.bytes.chunks(table.n).filter(|row| before.insert(*row)).collect();
+    Table { n: table.n, bytes: rows.concat() }
 }
 
 /// The rows in ascending order, once each.
@@ -129,11 +188,16 @@ fn with_row(random: &mut Random, table: &Table) -> Table {
     in_order(&more)
 }
 
-/// A long table: thousands of random rows, or exactly 4,096.
+/// A long table: thousands of random rows, or exactly 4,096, or all that there are; sometimes in order.
 pub fn long(random: &mut Random, n: usize) -> Table {
     let count = if random.once_in(3) { MOST_ROWS } else { random.between(200, MOST_ROWS) };
-    let largest = random.pick(&[1, 3, 10, 50]);
-    rows(random, n, count, largest)
+    let largest = random.pick(&[3, 10, 25, 50]);
+    let table = rows(random, n, count, largest);
+    if random.once_in(4) {
+        in_order(&table)
+    } else {
+        table
+    }
 }
 
 /// A few rows whose completion often has 500 to 4,096 rows.
@@ -163,11 +227,15 @@ fn cut(random: &mut Random, table: &mut Table) {
     }
 }
 
-/// 4,097 rows or more, seldom far more.
+/// 4,097 rows or more, seldom far more; mostly with equal ones, which n = 1 and n = 2 must have.
 fn stretch(random: &mut Random, table: &mut Table) {
-    let beyond = if random.once_in(8) { random.between(1, 70_000) } else { 1 };
-    let length = table.n.clamp(1, 8) * (MOST_ROWS + beyond);
-    table.bytes.resize(length, random.byte(1));
+    let rows = MOST_ROWS + if random.once_in(8) { random.between(1, 70_000) } else { 1 };
+    let n = table.n.clamp(1, 8);
+    if random.once_in(3) {
+        table.bytes = counted(n, rows);
+    } else {
+        table.bytes.resize(n * rows, random.byte(1));
+    }
 }
 
 /// An entry above 50.

@@ -1,4 +1,6 @@
-//! The tables that are measured: large regular ones, random ones, and their smaller relatives.
+//! The tables that are measured: large regular ones, random ones, and their smaller relatives. None has equal rows.
+
+use std::collections::BTreeSet;
 
 /// A small generator of numbers; the same seed gives the same tables.
 pub struct Numbers(pub u64);
@@ -41,28 +43,54 @@ pub fn powers(n: usize, exponent: u8) -> Vec<u8> {
     (0..n * n).map(|at| if at % (n + 1) == 0 { exponent } else { 0 }).collect()
 }
 
-/// Random rows with entries 0 to 50.
+/// The order of random rows.
+#[derive(Clone, Copy, Debug)]
+pub enum Order {
+    /// Each below the next.
+    Ascending,
+    /// As they were drawn.
+    Unsorted,
+}
+
+/// So many rows as they are drawn, each once, and then in order where that is wanted.
+fn each_once(rows: usize, order: Order, mut draw: impl FnMut() -> Vec<u8>) -> Vec<u8> {
+    let mut seen = BTreeSet::new();
+    let mut kept = Vec::new();
+    while kept.len() < rows {
+        let row = draw();
+        if seen.insert(row.clone()) {
+            kept.push(row);
+        }
+    }
+    match order {
+        Order::Ascending => seen.into_iter().flatten().collect(),
+        Order::Unsorted => kept.concat(),
+    }
+}
+
+/// Random rows with entries 0 to 50, in no order.
 pub fn random(n: usize, rows: usize) -> Vec<u8> {
-    Numbers(n as u64).bytes(n * rows, 51)
+    let mut numbers = Numbers(n as u64);
+    each_once(rows, Order::Unsorted, || numbers.bytes(n, 51))
 }
 
 /// Random rows and a query that none of them divides: each row has to be looked at to its last exponent.
 pub fn none_divides(n: usize, rows: usize) -> (Vec<u8>, Vec<u8>) {
-    let mut table = random(n, rows);
-    table.chunks_exact_mut(n).for_each(|row| row[n - 1] = row[n - 1].max(1));
+    let mut numbers = Numbers(n as u64);
+    let table = each_once(rows, Order::Unsorted, || {
+        let mut row = numbers.bytes(n, 51);
+        row[n - 1] = row[n - 1].max(1);
+        row
+    });
     let mut query = vec![50; n];
     query[n - 1] = 0;
     (table, query)
 }
 
-/// Random rows in ascending order, each once.
+/// Random rows in ascending order.
 pub fn ascending(n: usize, rows: usize) -> Vec<u8> {
     let mut numbers = Numbers(100 + n as u64);
-    let mut kept = std::collections::BTreeSet::new();
-    while kept.len() < rows {
-        kept.insert(numbers.bytes(n, 51));
-    }
-    kept.into_iter().flatten().collect()
+    each_once(rows, Order::Ascending, || numbers.bytes(n, 51))
 }
 
 /// A completed table of about so many rows: of random tables with n - 1 to 8 rows, the one whose completion comes
@@ -84,17 +112,18 @@ pub fn completed_near(n: usize, rows: usize) -> Vec<u8> {
 }
 
 /// A bundle of 16 tables of random rows with exactly so many bytes, or a few less where n does not divide them.
-pub fn bundle(n: usize, bytes: usize, bound: usize) -> Vec<u8> {
+pub fn bundle(n: usize, bytes: usize, bound: usize, order: Order) -> Vec<u8> {
     let tables = 16;
     let rows = (bytes - 2 - 4 * tables) / n;
+    let mut numbers = Numbers(7);
     let mut bundle = vec![n as u8, tables as u8];
-    let mut offset = 2 + 4 * tables;
+    let mut bodies = Vec::new();
     for table in 0..tables {
         let count = rows / tables + usize::from(table < rows % tables);
         bundle.extend((count as u16).to_le_bytes());
-        bundle.extend((offset as u16).to_le_bytes());
-        offset += n * count;
+        bundle.extend(((2 + 4 * tables + bodies.len()) as u16).to_le_bytes());
+        bodies.extend(each_once(count, order, || numbers.bytes(n, bound)));
     }
-    bundle.extend(Numbers(7).bytes(n * rows, bound));
+    bundle.extend(bodies);
     bundle
 }

@@ -24,12 +24,24 @@ pub const MOST_BUNDLE_BYTES: usize = 65_535;
 /// The row number by which the C functions say that there is none.
 pub const NO_ROW: u32 = 65_535;
 
-/// Why there is no answer.
+/// Why there is no answer. A row that stands twice in a table is a typing error, 12, where rows may come in any order,
+/// and rows out of order, 6, where they must ascend:
+///
+/// ```
+/// let twice = [1, 0, 1, 0];
+/// let number = |refusal: rocaplanh::Refusal| refusal.number();
+/// assert_eq!(rocaplanh::marks(2, &twice, &mut [0; 2]).map_err(number), Err(12));
+/// assert_eq!(rocaplanh::inside(2, &twice, &[1, 0]).map_err(number), Err(12));
+/// assert_eq!(rocaplanh::completed(2, &twice).map_err(number), Err(12));
+/// assert_eq!(rocaplanh::written(2, &[2], &twice).map_err(number), Err(12));
+/// assert_eq!(rocaplanh::open(&[2, 1, 2, 0, 6, 0, 1, 0, 1, 0], 0).map_err(number), Err(12));
+/// assert_eq!(rocaplanh::find(2, &twice, &[1, 0]).map_err(number), Err(6));
+/// ```
 #[derive(Clone, Copy, Debug, PartialEq, Eq)]
 pub struct Refusal(u32);
 
 impl Refusal {
-    /// The paper's number, 1 to 11.
+    /// The paper's number, 1 to 12.
     pub fn number(self) -> u32 {
         self.0
     }
@@ -49,6 +61,7 @@ impl fmt::Display for Refusal {
             9 => "the number of tables is not 1 to 16, or the bundle's size or header is wrong",
             10 => "an offset is not where that table must begin",
             11 => "a body passes the bundle's end, or bytes remain after the last",
+            12 => "two rows of one table are equal",
             _ => "refused",
         };
         write!(out, "{reason} (refusal {})", self.0)
@@ -71,21 +84,22 @@ fn row_or_none(row: u32) -> Option<usize> {
     (row != NO_ROW).then_some(row as usize)
 }
 
-/// Writes the marks of each row to the front of `marks`; bytes behind stay.
+/// Writes the marks of each row to the front of `marks`; bytes behind stay. Rows may come in any order, each once.
 pub fn marks(n: usize, table: &[u8], marks: &mut [u8]) -> Result<(), Refusal> {
     // Safety, here and below: a slice's pointer is valid for its length, and a mutable borrow overlaps nothing else.
     let returned = unsafe { rocaplanh_marks(n, table.as_ptr(), table.len(), marks.as_mut_ptr(), marks.len()) };
     answered(returned, ())
 }
 
-/// The first row that divides the query.
+/// The first row that divides the query; rows may come in any order, each once.
 pub fn inside(n: usize, table: &[u8], query: &[u8]) -> Result<Option<usize>, Refusal> {
     let mut row = 0;
     let returned = unsafe { rocaplanh_inside(n, table.as_ptr(), table.len(), query.as_ptr(), query.len(), &mut row) };
     answered(returned, row_or_none(row))
 }
 
-/// Writes the completed table to the front of `rows` and gives its number of rows; bytes behind stay.
+/// Writes the completed table to the front of `rows` and gives its number of rows; bytes behind stay. The given rows
+/// may come in any order, each once.
 pub fn complete(n: usize, table: &[u8], rows: &mut [u8]) -> Result<usize, Refusal> {
     let mut count = 0;
     let returned =
@@ -160,7 +174,8 @@ pub fn open(bundle: &[u8], table: usize) -> Result<Opened<'_>, Refusal> {
 }
 
 /// Writes the bundle of some tables to the front of `buffer` and gives its length; bytes behind stay. `counts` has the
-/// number of rows of each table, and `tables` their rows end to end. What is written opens as these tables:
+/// number of rows of each table, and `tables` their rows end to end; a row may stand in several tables, but in each
+/// only once. What is written opens as these tables:
 ///
 /// ```
 /// let mut buffer = [9; 12];

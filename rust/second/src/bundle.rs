@@ -1,7 +1,7 @@
 //! The reader of bundles: the header's refusals in the paper's order, and where each table's body lies.
 
 use crate::division::VARIABLES;
-use crate::operations::{LARGEST_ENTRY, MOST_ROWS};
+use crate::operations::{check_distinct, rows_of, LARGEST_ENTRY, MOST_ROWS};
 use crate::Refusal;
 
 /// The most bytes of a bundle.
@@ -27,12 +27,12 @@ impl Opened {
     }
 }
 
-/// Table j of a bundle, counted from 0.
+/// Table j of a bundle, counted from 0; refused by 5 behind the last table of a bundle without fault.
 pub fn open(bundle: &[u8], j: usize) -> Result<Opened, Refusal> {
     tables(bundle)?.get(j).copied().ok_or(5)
 }
 
-/// All tables of a bundle; refused by 9, 1, 3, 10, 11 or 4 for a fault in any of them.
+/// All tables of a bundle; refused by 9, 1, 3, 10, 11, 4 or 12 for a fault in any of them.
 pub fn tables(bundle: &[u8]) -> Result<Vec<Opened>, Refusal> {
     let (n, tables) = checked_header(bundle)?;
     let mut next = 2 + 4 * tables;
@@ -49,6 +49,7 @@ pub fn tables(bundle: &[u8]) -> Result<Vec<Opened>, Refusal> {
     if opened.iter().any(|table| table.body(bundle).iter().any(|&entry| entry > LARGEST_ENTRY)) {
         return Err(4);
     }
+    opened.iter().try_for_each(|table| check_distinct(&rows_of(n, table.body(bundle))))?;
     Ok(opened)
 }
 

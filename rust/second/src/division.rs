@@ -4,6 +4,7 @@
 //! - `divides`, `is_inside`: rule 1.
 //! - `marks_of`, `all_marks`: rule 2.
 //! - `janet_divides`: rule 3. `is_complete`: rule 4.
+//! - `strictly_ascends`, `has_equal_rows`: what the operations ask of rows.
 //! - `find`: the Janet divisor by a scan, its steps by rule 6.
 
 use std::collections::BTreeSet;
@@ -82,6 +83,12 @@ pub fn times(u: &Monomial, place: usize) -> Monomial {
 /// Each row comes before the next: at the first place where they differ it is the smaller.
 pub fn strictly_ascends(rows: &[Monomial]) -> bool {
     rows.windows(2).all(|pair| pair[0] < pair[1])
+}
+
+/// Some row stands there twice: it is in the set of the rows before it.
+pub fn has_equal_rows(rows: &[Monomial]) -> bool {
+    let mut before = BTreeSet::new();
+    !rows.iter().all(|row| before.insert(row))
 }
 
 /// What find gives: the Janet divisor's row number, if there is one, and the exponents stepped on.

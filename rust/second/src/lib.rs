@@ -21,5 +21,5 @@ pub mod listing;
 pub mod operations;
 pub mod writer;
 
-/// The paper's number of a refusal, 1 to 11.
+/// The paper's number of a refusal, 1 to 12.
 pub type Refusal = u8;

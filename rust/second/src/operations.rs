@@ -4,7 +4,7 @@
 use crate::completion::completed;
 use crate::counting;
 use crate::division::{
-    all_marks, divides, find as find_row, is_complete, strictly_ascends, Found, Monomial, VARIABLES,
+    all_marks, divides, find as find_row, has_equal_rows, is_complete, strictly_ascends, Found, Monomial, VARIABLES,
 };
 use crate::Refusal;
 
@@ -29,7 +29,28 @@ pub fn checked_rows(n: usize, table: &[u8]) -> Result<Vec<Monomial>, Refusal> {
     if table.iter().any(|&entry| entry > LARGEST_ENTRY) {
         return Err(4);
     }
-    Ok(table.chunks(n).map(monomial).collect())
+    Ok(rows_of(n, table))
+}
+
+/// The rows of a table for the operations that take them in any order: refused by 1 to 4, then by 12.
+fn checked_distinct_rows(n: usize, table: &[u8]) -> Result<Vec<Monomial>, Refusal> {
+    let rows = checked_rows(n, table)?;
+    check_distinct(&rows)?;
+    Ok(rows)
+}
+
+/// Refused by 12 when two rows are equal.
+pub fn check_distinct(rows: &[Monomial]) -> Result<(), Refusal> {
+    if has_equal_rows(rows) {
+        Err(12)
+    } else {
+        Ok(())
+    }
+}
+
+/// The rows of n exponents that stand end to end.
+pub fn rows_of(n: usize, table: &[u8]) -> Vec<Monomial> {
+    table.chunks(n).map(monomial).collect()
 }
 
 /// The monomial with these exponents, 0 behind them.
@@ -76,9 +97,9 @@ fn check_degree(s: usize) -> Result<(), Refusal> {
     }
 }
 
-/// The marks of each row at the buffer's front.
+/// The marks of each row at the buffer's front. Refused by 1 to 4, 12 or 8.
 pub fn marks(n: usize, table: &[u8], buffer: &mut [u8]) -> Result<(), Refusal> {
-    let rows = checked_rows(n, table)?;
+    let rows = checked_distinct_rows(n, table)?;
     if buffer.len() < rows.len() {
         return Err(8);
     }
@@ -86,16 +107,16 @@ pub fn marks(n: usize, table: &[u8], buffer: &mut [u8]) -> Result<(), Refusal> {
     Ok(())
 }
 
-/// The first given row that divides the query.
+/// The first given row that divides the query. Refused by 1 to 4, 12 or 5.
 pub fn inside(n: usize, table: &[u8], query: &[u8]) -> Result<Option<usize>, Refusal> {
-    let rows = checked_rows(n, table)?;
+    let rows = checked_distinct_rows(n, table)?;
     let q = checked_query(n, query)?;
     Ok(rows.iter().position(|u| divides(u, &q)))
 }
 
-/// The completed rows at the buffer's front, and how many they are.
+/// The completed rows at the buffer's front, and how many they are. Refused by 1 to 4, 12 or 8.
 pub fn complete(n: usize, table: &[u8], buffer: &mut [u8]) -> Result<usize, Refusal> {
-    let rows = checked_rows(n, table)?;
+    let rows = checked_distinct_rows(n, table)?;
     let room = MOST_ROWS.min(buffer.len() / n);
     let full = completed(n, &rows, room).ok_or(8)?;
     for (place, row) in buffer.chunks_exact_mut(n).zip(&full) {

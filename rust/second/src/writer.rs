@@ -5,11 +5,11 @@
 
 use crate::bundle::{MOST_BYTES, MOST_TABLES};
 use crate::division::VARIABLES;
-use crate::operations::{LARGEST_ENTRY, MOST_ROWS};
+use crate::operations::{check_distinct, rows_of, LARGEST_ENTRY, MOST_ROWS};
 use crate::Refusal;
 
 /// The bundle of some tables at the buffer's front, and its length. `counts` has the number of rows of each table, and
-/// `tables` their rows end to end. Refused by 1, 9, 2, 3, 4 or 8, the first that holds.
+/// `tables` their rows end to end. Refused by 1, 9, 2, 3, 4, 12 or 8, the first that holds.
 pub fn write(n: usize, counts: &[u16], tables: &[u8], buffer: &mut [u8]) -> Result<usize, Refusal> {
     check(n, counts, tables)?;
     let length = header(counts) + tables.len();
@@ -22,7 +22,7 @@ pub fn write(n: usize, counts: &[u16], tables: &[u8], buffer: &mut [u8]) -> Resu
     Ok(length)
 }
 
-/// Refused by 1, 9, 2, 3 or 4 unless these are the tables of some bundle, be it a long one.
+/// Refused by 1, 9, 2, 3, 4 or 12 unless these are the tables of some bundle, be it a long one.
 fn check(n: usize, counts: &[u16], tables: &[u8]) -> Result<(), Refusal> {
     if !(1..=VARIABLES).contains(&n) {
         return Err(1);
@@ -39,7 +39,13 @@ fn check(n: usize, counts: &[u16], tables: &[u8]) -> Result<(), Refusal> {
     if tables.iter().any(|&entry| entry > LARGEST_ENTRY) {
         return Err(4);
     }
-    Ok(())
+    (0..counts.len()).try_for_each(|table| check_distinct(&rows_of(n, body(n, counts, tables, table))))
+}
+
+/// The bytes of one of the tables: they stand behind the rows of those before it.
+fn body<'a>(n: usize, counts: &[u16], tables: &'a [u8], table: usize) -> &'a [u8] {
+    let [start, end] = [table, table + 1].map(|tables| n * rows(&counts[..tables]));
+    &tables[start..end]
 }
 
 /// The byte at a place of the bundle.

@@ -3,7 +3,7 @@
 use second::completion::completed;
 use second::counting::{count, polynomial, steady};
 use second::division::{
-    all_marks, degree, find, is_complete, is_inside, janet_divides, strictly_ascends, times, Monomial,
+    all_marks, degree, find, has_equal_rows, is_complete, is_inside, janet_divides, strictly_ascends, times, Monomial,
 };
 
 /// A small generator of numbers; the same seed gives the same tables.
@@ -85,6 +85,21 @@ fn by_products(n: usize, given: &[Monomial]) -> Vec<Monomial> {
     }
     rows.sort();
     rows
+}
+
+#[test]
+fn equal_rows_are_two_places() {
+    let mut numbers = Numbers(4);
+    let mut seen = [0; 2];
+    for n in 1..=6 {
+        for _ in 0..200 {
+            let rows = random_rows(&mut numbers, n, 1);
+            let equal = (0..rows.len()).any(|place| rows[..place].contains(&rows[place]));
+            assert_eq!(has_equal_rows(&rows), equal, "{rows:?}");
+            seen[usize::from(equal)] += 1;
+        }
+    }
+    assert!(seen[0] >= 200 && seen[1] >= 200, "{seen:?}");
 }
 
 #[test]

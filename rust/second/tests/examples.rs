@@ -64,9 +64,43 @@ fn d_the_listing() {
     assert_eq!(open(&bundle, 1), Err(5));
 }
 
+/// What marks, inside and complete give, in buffers of this length and with this query: the refusal, 0 for an answer.
+fn refusals(n: usize, table: &[u8], length: usize, query: &[u8]) -> [u8; 3] {
+    let (mut marked, mut rows) = (vec![255; length], vec![255; length]);
+    let given = [
+        marks(n, table, &mut marked).err(),
+        inside(n, table, query).err(),
+        complete(n, table, &mut rows).map(|_| ()).err(),
+    ];
+    assert!(given[0].is_none() || marked.iter().all(|&byte| byte == 255), "a refusal leaves the buffer");
+    assert!(given[2].is_none() || rows.iter().all(|&byte| byte == 255), "a refusal leaves the buffer");
+    given.map(|refusal| refusal.unwrap_or(0))
+}
+
 #[test]
 fn e_equal_rows() {
-    assert_eq!(completed(2, &[1, 0, 1, 0]), Ok(vec![1, 0]));
+    let twice = [1, 0, 1, 0];
+    assert_eq!(refusals(2, &twice, 9, &[1, 0]), [12; 3]);
+    assert_eq!((find(2, &twice, &[1, 0]), steady(2, &twice)), (Err(6), Err(6)));
+    assert_eq!((count(2, &twice, 0), polynomial(2, &twice, 0)), (Err(6), Err(6)));
+    assert_eq!(refusals(2, &[1, 0, 2, 7, 0, 3, 1, 0], 9, &[1, 0]), [12; 3]);
+    assert_eq!(refusals(2, &[1, 0, 0, 1], 9, &[1, 0]), [0; 3]);
+}
+
+/// Together with another fault: 1 to 4 come before 12, 5 and 8 behind it.
+#[test]
+fn equal_rows_and_another_fault() {
+    assert_eq!(refusals(0, &[1, 0, 1, 0], 9, &[]), [1; 3]);
+    assert_eq!(refusals(7, &[1; 14], 9, &[1; 7]), [1; 3]);
+    assert_eq!(refusals(2, &[1, 0, 1, 0, 2], 9, &[1, 0]), [2; 3]);
+    assert_eq!(refusals(1, &[1; 4097], 5000, &[1]), [3; 3]);
+    assert_eq!(refusals(1, &[1; 4096], 5000, &[1]), [12; 3]);
+    assert_eq!(refusals(2, &[51, 0, 1, 0, 1, 0], 9, &[1, 0]), [4; 3]);
+    assert_eq!(refusals(2, &[1, 0, 1, 0, 0, 51], 9, &[1, 0]), [4; 3]);
+    assert_eq!(refusals(2, &[51, 0, 51, 0], 9, &[1, 0]), [4; 3]);
+    assert_eq!(refusals(2, &[1, 0, 1, 0], 0, &[1, 0, 0]), [12; 3]);
+    assert_eq!(refusals(2, &[1, 0, 1, 0], 1, &[]), [12; 3]);
+    assert_eq!(refusals(2, &[1, 0, 0, 1], 1, &[]), [8, 5, 8]);
 }
 
 #[test]
@@ -149,4 +183,34 @@ fn bundles_are_refused_in_order() {
     assert_eq!(listing(&[2, 1, 1, 0, 6, 0, 51, 1, 1]), "R 11\n");
     assert_eq!(listing(&[2, 1, 0, 0, 6, 0]), "T 0 0 0\nS 0\n");
     assert_eq!(listing(&vec![0; 65_536]), "R 9\n");
+}
+
+/// Equal rows in the first, the middle and the last of three tables, alone and with each other fault of a bundle: 5
+/// alone comes behind 12.
+#[test]
+fn bundles_with_equal_rows() {
+    let with = |at: usize, byte: u8, bundle: &[u8]| {
+        let mut other = bundle.to_vec();
+        other[at] = byte;
+        other
+    };
+    for place in 0..3 {
+        let (mut bundle, mut second_row) = (vec![1, 3, 2, 0, 14, 0, 2, 0, 16, 0, 2, 0, 18, 0], [8; 3]);
+        second_row[place] = 7;
+        bundle.extend(second_row.iter().flat_map(|&row| [7, row]));
+        assert_eq!((open(&bundle, 0), open(&bundle, 2), open(&bundle, 3)), (Err(12), Err(12), Err(12)));
+        assert_eq!(listing(&bundle), "R 12\n");
+        for at in 14..20 {
+            assert_eq!(listing(&with(at, 51, &bundle)), "R 4\n");
+        }
+        assert_eq!(listing(&[&bundle[..], &[1]].concat()), "R 11\n");
+        assert_eq!(listing(&bundle[..19]), "R 11\n");
+        for table in 0..3 {
+            assert_eq!(listing(&with(4 + 4 * table, 99, &bundle)), "R 10\n");
+            assert_eq!(listing(&with(3 + 4 * table, 17, &bundle)), "R 3\n");
+        }
+        assert_eq!((listing(&with(0, 7, &bundle)), listing(&with(1, 17, &bundle))), ("R 1\n".into(), "R 9\n".into()));
+    }
+    let apart = [1, 2, 2, 0, 10, 0, 2, 0, 12, 0, 7, 8, 8, 7];
+    assert_eq!((open(&apart, 1).map(|table| table.offset), open(&apart, 2)), (Ok(12), Err(5)));
 }

@@ -17,6 +17,11 @@ fn written(n: usize, counts: &[u16], tables: &[u8]) -> Result<Vec<u8>, u8> {
     result.map(|_| buffer)
 }
 
+/// So many rows, no two equal.
+fn different(n: usize, rows: usize) -> Vec<u8> {
+    (0..rows).flat_map(|row| (0..n as u32).map(move |place| (row / 51_usize.pow(place) % 51) as u8)).collect()
+}
+
 #[test]
 fn the_papers_bundle() {
     assert_eq!(written(2, &[2], &[2, 1, 0, 2]), Ok(vec![2, 1, 2, 0, 6, 0, 2, 1, 0, 2]));
@@ -38,9 +43,10 @@ fn tables_without_rows() {
 /// 300 is 1 times 256 and 44; the second table begins at 10 + 2 times 300, and 610 is 2 times 256 and 98.
 #[test]
 fn low_byte_first() {
-    let bundle = written(2, &[300, 1], &[5; 602]).expect("a sound bundle");
+    let rows = different(2, 301);
+    let bundle = written(2, &[300, 1], &rows).expect("a sound bundle");
     assert_eq!(bundle[..10], [2, 2, 44, 1, 10, 0, 1, 0, 98, 2]);
-    assert_eq!(bundle[10..], [5; 602]);
+    assert_eq!(bundle[10..], rows);
 }
 
 #[test]
@@ -67,12 +73,24 @@ fn each_refusal() {
     assert_eq!((written(2, &[2], &[1; 3]), written(2, &[2], &[1; 5])), (Err(2), Err(2)));
     assert_eq!((written(2, &[2], &[1; 2]), written(2, &[1, 1], &[1; 6])), (Err(2), Err(2)));
     assert_eq!(written(1, &[4097], &[1; 4097]), Err(3));
-    assert_eq!(written(1, &[2, 4096], &[1; 4098]).map(|bundle| bundle.len()), Ok(4108));
+    let rows = [different(3, 2), different(3, 4096)].concat();
+    assert_eq!(written(3, &[2, 4096], &rows).map(|bundle| bundle.len()), Ok(12_304));
     assert_eq!((written(1, &[1], &[51]), written(1, &[1, 1], &[50, 255])), (Err(4), Err(4)));
     assert_eq!(written(1, &[1], &[50]), Ok(vec![1, 1, 1, 0, 6, 0, 50]));
 }
 
-/// Where two conditions hold, the first of 1, 9, 2, 3, 4, 8 is given.
+/// Refusal 12 is for two rows of one table: the first, a middle or the last, the rows side by side or not.
+#[test]
+fn equal_rows() {
+    assert_eq!(written(2, &[2], &[1, 0, 1, 0]), Err(12));
+    assert_eq!(written(2, &[3], &[1, 0, 0, 1, 1, 0]), Err(12));
+    for equal in [[7, 7, 7, 8, 7, 8], [7, 8, 7, 7, 7, 8], [7, 8, 7, 8, 7, 7]] {
+        assert_eq!(written(1, &[2, 2, 2], &equal), Err(12));
+    }
+    assert!(written(1, &[2, 2, 2], &[7, 8, 7, 8, 8, 7]).is_ok());
+}
+
+/// Where two conditions hold, the first of 1, 9, 2, 3, 4, 12, 8 is given.
 #[test]
 fn refusals_in_order() {
     assert_eq!(write(0, &[], &[], &mut []), Err(1));
@@ -88,20 +106,38 @@ fn refusals_in_order() {
     assert_eq!(write(1, &[1], &[1], &mut []), Err(8));
 }
 
-/// Sixteen tables have a header of 66 bytes. With 15 tables of 4,096 rows and n = 1 the last begins at 66 + 61,440,
-/// which is 240 times 256 and 66; its 4,029 rows, 15 times 256 and 189, end at 65,535.
+/// The same for two conditions of which one is 12: only 8 comes behind it.
+#[test]
+fn equal_rows_and_another_fault() {
+    assert_eq!(written(7, &[2], &[1; 14]), Err(1));
+    assert_eq!(written(1, &[1; 17], &[1; 17]), Err(9));
+    assert_eq!((written(1, &[2], &[1; 3]), written(1, &[3], &[1; 2])), (Err(2), Err(2)));
+    assert_eq!((written(1, &[2, 4097], &[1; 4099]), written(1, &[4097, 1], &[1; 4098])), (Err(3), Err(3)));
+    assert_eq!((written(1, &[2, 1], &[1, 1, 51]), written(1, &[1, 2], &[51, 1, 1])), (Err(4), Err(4)));
+    assert_eq!((written(1, &[3], &[51, 1, 1]), written(1, &[2], &[51, 51])), (Err(4), Err(4)));
+    assert_eq!(write(1, &[2], &[1, 1], &mut [0; 7]), Err(12));
+    assert_eq!(write(1, &[2], &[1, 1], &mut []), Err(12));
+    assert_eq!(written(1, &[4096; 16], &[7; 65_536]), Err(12));
+}
+
+/// Sixteen tables have a header of 66 bytes. With 15 tables of 1,364 rows, 5 times 256 and 84, and n = 3 the second
+/// begins at 66 + 4,092, which is 16 times 256 and 62, and the last at 66 + 61,380, which is 240 times 256 and 6; its
+/// 1,363 rows end at 65,535. With n = 2 the same number of tables can end at 65,536.
 #[test]
 fn the_longest_bundle() {
-    let mut counts = [4096; 16];
-    counts[15] = 4029;
-    let bundle = written(1, &counts, &[7; 65_469]).expect("it is not too long");
+    let mut counts = [1364; 16];
+    counts[15] = 1363;
+    let rows = different(3, 21_824);
+    let bundle = written(3, &counts, &rows[..65_469]).expect("it is not too long");
     assert_eq!(bundle.len(), 65_535);
-    assert_eq!(bundle[..10], [1, 16, 0, 16, 66, 0, 0, 16, 66, 16]);
-    assert_eq!(bundle[62..66], [189, 15, 66, 240]);
-    assert!(bundle[66..].iter().all(|&entry| entry == 7));
-    counts[15] = 4030;
-    assert_eq!(written(1, &counts, &[7; 65_470]), Err(8));
-    assert_eq!(written(1, &[4096; 16], &[7; 65_536]), Err(8));
+    assert_eq!(bundle[..10], [3, 16, 84, 5, 66, 0, 84, 5, 62, 16]);
+    assert_eq!(bundle[62..66], [83, 5, 6, 240]);
+    assert_eq!(bundle[66..], rows[..65_469]);
+    assert_eq!(written(3, &[1364; 16], &rows), Err(8));
+    counts = [2046; 16];
+    counts[15] = 2045;
+    let rows = different(2, 2046).repeat(16);
+    assert_eq!(written(2, &counts, &rows[..65_470]), Err(8));
     assert_eq!(written(1, &[4096; 16], &[]), Err(2));
 }
 
@@ -116,10 +152,10 @@ fn the_reader_gives_the_tables() {
     let bodies: Vec<&[u8]> = opened.iter().map(|table| table.body(&bundle)).collect();
     assert_eq!(bodies, [&given[..6], &[], &given[6..]]);
     for n in 1..=6 {
-        let counts: Vec<u16> = (0..16).map(|table| (table * 41 + n) % 97).collect();
-        let rows: Vec<usize> = counts.iter().map(|&count| usize::from(count)).collect();
-        let given: Vec<u8> = (0..usize::from(n) * rows.iter().sum::<usize>()).map(|at| (at % 51) as u8).collect();
-        let bundle = written(n.into(), &counts, &given).expect("a sound bundle");
+        let rows: Vec<usize> = (0..16).map(|table| (table * 41 + n) % 47).collect();
+        let counts: Vec<u16> = rows.iter().map(|&count| count as u16).collect();
+        let given: Vec<u8> = rows.iter().flat_map(|&count| different(n, count)).collect();
+        let bundle = written(n, &counts, &given).expect("a sound bundle");
         let opened = tables(&bundle).expect("a sound bundle");
         assert_eq!(opened.iter().map(|table| table.rows).collect::<Vec<usize>>(), rows);
         assert_eq!(opened.iter().map(|table| table.body(&bundle)).collect::<Vec<&[u8]>>().concat(), given);

@@ -11,11 +11,11 @@ use Rattle.listing.proofs.TableLaws.{made-rows, made-none}
 use Rattle.listing.proofs.put_table.Statement.{statement}
 use Rattle.listing.proofs.put_table.Tie as tie
 
-slice-aggregate-complete : tie.Need-slice-aggregate-complete
-slice-aggregate-complete c = search needs
+slice-aggregate-complete-checked : tie.Need-slice-aggregate-complete-checked
+slice-aggregate-complete-checked c = search needs
 
-complete-requires : tie.Need-complete-requires
-complete-requires c κs = search needs
+complete-checked-requires : tie.Need-complete-checked-requires
+complete-checked-requires c κs = search needs
 
 enum-known-count : tie.Need-enum-known-count
 enum-known-count c = search needs
@@ -24,26 +24,26 @@ mul-size : tie.Need-mul-size
 mul-size c =
     let answer = c .before .before .before .before in
     let start = answer .before .before .before .before in
-    let m = made-rows (start .pre .0) (answer .complete .ensures) (c .before .count .given .1) in
+    let m = made-rows (start .pre .0) (answer .complete-checked .ensures) (c .before .count .given .1) in
     omega (arith, m .fits)
 
 array-share-prefix-made : tie.Need-array-share-prefix-made
 array-share-prefix-made c =
     let answer = c .before .before .before .before in
     let start = answer .before .before .before .before in
-    made-rows (start .pre .0) (answer .complete .ensures) (c .before .count .given .1) .fits
+    made-rows (start .pre .0) (answer .complete-checked .ensures) (c .before .count .given .1) .fits
 
 slice-aggregate-completed : tie.Need-slice-aggregate-completed
 slice-aggregate-completed c =
     let answer = c .before .before .before .before .before in
     let start = answer .before .before .before .before in
-    sym (made-rows (start .pre .0) (answer .complete .ensures) (c .before .before .count .given .1) .size)
+    sym (made-rows (start .pre .0) (answer .complete-checked .ensures) (c .before .before .count .given .1) .size)
 
 put-completed-requires : tie.Need-put-completed-requires
 put-completed-requires c κs =
     let answer = c .before .before .before .before .before .before in
     let start = answer .before .before .before .before in
-    let m = made-rows (start .pre .0) (answer .complete .ensures) (c .before .before .before .count .given .1) in
+    let m = made-rows (start .pre .0) (answer .complete-checked .ensures) (c .before .before .before .count .given .1) in
     (m .some, m .six, m .same, omega (arith, ap length (m .same), m .limited), start .pre .1)
 
 enum-told : tie.Need-enum-told
@@ -54,7 +54,7 @@ put-no-room-line-requires c κs =
     let answer = c .before .before .before .before in
     let start = answer .before .before .before .before in
     let a = start .args in
-    let more = made-none (start .pre .0) (answer .complete .ensures) (c .before .enum-told .given .1) (search needs) in
+    let more = made-none (start .pre .0) (answer .complete-checked .ensures) (c .before .enum-told .given .1) (search needs) in
     omega (arith, ap length (tableText-full (a .n) (a .j) (rows (a .n) (a .table .now)) more), start .pre .1)
 
 same-length : tie.Need-same-length
@@ -72,15 +72,15 @@ returns-2 c =
     let answer = told .before .before .before in
     let start = answer .before .before .before .before in
     let a = start .args in
-    let more = made-none (start .pre .0) (answer .complete .ensures) (told .enum-told .given .1) (search needs) in
+    let more = made-none (start .pre .0) (answer .complete-checked .ensures) (told .enum-told .given .1) (search needs) in
     wrote-as (c .before .before .put-no-room-line .ensures) (sym (tableText-full (a .n) (a .j) (rows (a .n) (a .table .now)) more))
 
 pub put-table-spec : {M : Type 1} → statement M
 put-table-spec =
     tie.close
     (tie.spec
-    slice-aggregate-complete
-    complete-requires
+    slice-aggregate-complete-checked
+    complete-checked-requires
     enum-known-count
     mul-size
     array-share-prefix-made

@@ -1,4 +1,4 @@
--- `write_refusal` meets its contract: the checks 1, 9, 2 and 3 refuse, or they pass and 4 and then 8 decide.
+-- The checks 1, 9, 2 and 3 refuse, or they pass and 4, then 12, then 8 decide.
 use native.Mathlib.Omega.{arith}
 use mathlib.Core.Path.{_≡_, sym, _∙_}
 use mathlib.Core.Bool.{false}
@@ -9,8 +9,10 @@ use borrow.Author.Needs.{needs}
 use Rattle.checks.specs.Tests.{any}
 use Rattle.checks.specs.Refusals.{refusal}
 use Rattle.checks.proofs.RefusalLaws.{refuses-first}
+use Rattle.distinct.specs.EqualRows.{equalRowsTest}
+use Rattle.packing.specs.GivenTables.{givenTables}
 use Rattle.packing.specs.Operation.{shapeChecks}
-use Rattle.packing.proofs.CheckLaws.{Shaped, shaped, shaped-size, write-four, write-eight, write-passes}
+use Rattle.packing.proofs.CheckLaws.{Shaped, shaped, shaped-size, write-four, write-twelve, write-eight, write-passes}
 use Rattle.packing.proofs.write_refusal.Statement.{statement}
 use Rattle.packing.proofs.write_refusal.Tie as tie
 
@@ -60,21 +62,41 @@ small c = sym (c .before .has-large-entry .ensures) ∙ c .if2 .left
 
 returns-3 : tie.Need-returns-3
 returns-3 c =
-    let o = c .before in
+    let o = c .before .before in
     let a = begin (o .before) .args in
-    write-eight (a .n) (a .counts .now) (a .tables .now) (a .room) (passed (o .before .before)) (small o) (inl (c .if3 .taken))
+    write-twelve (a .n) (a .counts .now) (a .tables .now) (a .room) (passed (o .before .before)) (small o)
+    (sym (c .before .some-equal-rows .ensures) ∙ c .if3 .taken)
+
+some-equal-rows-requires : tie.Need-some-equal-rows-requires
+some-equal-rows-requires c κs = (passed (c .before .before), small c)
+
+-- 12 passes
+abbrev behind : tie.Else3 → tie.Else2
+behind c = c .before .before
+
+distinct : (c : tie.Else3) → let a = begin (behind c .before) .args in any equalRowsTest (givenTables (a .n) (a .counts .now) (a .tables .now)) ≡ false
+distinct c = sym (c .before .some-equal-rows .ensures) ∙ c .if3 .left
 
 returns-4 : tie.Need-returns-4
 returns-4 c =
-    let o = c .before .before in
+    let d = c .before in
+    let o = behind d in
     let a = begin (o .before) .args in
-    write-eight (a .n) (a .counts .now) (a .tables .now) (a .room) (passed (o .before .before)) (small o) (inr (c .if4 .taken))
+    write-eight (a .n) (a .counts .now) (a .tables .now) (a .room) (passed (o .before .before)) (small o) (distinct d) (inl (c .if4 .taken))
 
 returns-5 : tie.Need-returns-5
 returns-5 c =
-    let o = c .before .before in
+    let d = c .before .before in
+    let o = behind d in
     let a = begin (o .before) .args in
-    write-passes (a .n) (a .counts .now) (a .tables .now) (a .room) (passed (o .before .before)) (small o) (c .before .if3 .left) (c .if4 .left)
+    write-eight (a .n) (a .counts .now) (a .tables .now) (a .room) (passed (o .before .before)) (small o) (distinct d) (inr (c .if5 .taken))
+
+returns-6 : tie.Need-returns-6
+returns-6 c =
+    let d = c .before .before in
+    let o = behind d in
+    let a = begin (o .before) .args in
+    write-passes (a .n) (a .counts .now) (a .tables .now) (a .room) (passed (o .before .before)) (small o) (distinct d) (c .before .if4 .left) (c .if5 .left)
 
 pub write-refusal-spec : {M : Type 1} → statement M
 write-refusal-spec =
@@ -87,6 +109,8 @@ write-refusal-spec =
     add-size
     add-size-2
     returns-2
+    some-equal-rows-requires
     returns-3
     returns-4
-    returns-5)
+    returns-5
+    returns-6)

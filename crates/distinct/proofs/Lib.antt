@@ -1,0 +1,4 @@
+-- The laws of equal rows.
+pub mod Examples
+pub mod EqualLaws
+pub mod CheckLaws

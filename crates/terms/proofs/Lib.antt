@@ -5,4 +5,5 @@ pub mod OrderLaws
 pub mod RowsLaws
 pub mod TableLaws
 pub mod LoopLaws
+pub mod KeyLaws
 pub mod Examples

@@ -7,7 +7,7 @@
 --   stretch-large, stretch-small   what the largest entry of a stretch says of the stretch
 --   any-stops, any-goes-on, any-past   a search for an entry from a place on, stretch by stretch
 --   byte-within, byte-past, row-of-six   a row that is read from the bytes of a table
---   ascends-next, breaks      the turns of `ascends`
+--   breaks                    the turn of `ascends` that ends it
 --   refused-1 .. refused-4, passed     the answers of `table_refusal`
 use mathlib.Core.Path.{_≡_, refl, sym, ap, _∙_, subst}
 use mathlib.Core.Bool.{Bool, true, false, _||_}
@@ -162,13 +162,6 @@ row-of-six n t k l h p q r s x y = rw (p, q, r, s, x, y, rows-at n t k h)
 
 pub breaks : (G : Table) (r : ℕ) → suc r < length G → false ≡ precedesTest (rowAt G r) (rowAt G (suc r)) → false ≡ ascendingTest G
 breaks G r l e = tests-false (tests-ascending G) (λ a. absurd (subst T (sym e) (tests-precedes (rowAt G r) (rowAt G (suc r)) .complete (a r l))))
-
-pub ascends-next : (G : Table) (k : ℕ) → 0 < k → true ≡ precedesTest (rowAt G (k - 1)) (rowAt G (suc (k - 1)))
-    → ((r : ℕ) → suc r < k → Precedes (rowAt G r) (rowAt G (suc r)))
-    → (r : ℕ) → suc r < k + 1 → Precedes (rowAt G r) (rowAt G (suc r))
-ascends-next G k p e b r l = by-cases (decLt (suc r) k) (b r) (λ g.
-    let x : k - 1 ≡ r = omega arith in
-    subst (λ (m : ℕ). Precedes (rowAt G m) (rowAt G (suc m))) x (tests-precedes (rowAt G (k - 1)) (rowAt G (suc (k - 1))) .sound (subst T e tt)))
 
 -- ---- table_refusal
 

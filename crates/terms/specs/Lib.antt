@@ -3,5 +3,6 @@ pub mod Monomials
 pub mod Ideal
 pub mod Order
 pub mod Rows
+pub mod Keys
 pub mod TableChecks
 pub mod ExampleTables

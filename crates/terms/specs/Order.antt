@@ -4,10 +4,8 @@
 --   Ascending G      G ascends strictly: each row precedes the next
 --
 -- With the tests `precedesTest`, `ascendingTest`.
-use mathlib.Core.Path.{_≡_}
 use mathlib.Core.Bool.{Bool, true, false, _&&_, _||_}
 use mathlib.Core.List.{[], _∷_}
-use mathlib.Core.Logic.{_⊎_}
 use Prim.Native.Nat.{ℕ, suc, _<_}
 use lib.Dec.{ltb, eqb}
 use lib.ListN.{length}

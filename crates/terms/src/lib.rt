@@ -3,12 +3,13 @@
 ghost use mathlib.Core.Path.{_≡_};
 ghost use Prim.Native.Nat.{suc, _+_, _*_, _≤_, _<_};
 ghost use lib.Dec.{ltb};
-ghost use lib.ListN.{length, take, drop};
+ghost use lib.ListN.{length, take, drop, getD};
 ghost use Rattle.checks.specs.Tests.{any};
 ghost use Rattle.terms.specs.Monomials.{_!_, rowAt, LargestOf};
 ghost use Rattle.terms.specs.Ideal.{FirstFailure, dividesTest};
 ghost use Rattle.terms.specs.Order.{precedesTest, ascendingTest};
 ghost use Rattle.terms.specs.Rows.{rows, asRow, putRow};
+ghost use Rattle.terms.specs.Keys.{rowKey, FrontAscends};
 ghost use Rattle.checks.specs.Refusals.{refusal};
 ghost use Rattle.terms.specs.TableChecks.{tableChecks};
 
@@ -128,13 +129,65 @@ fn precedes_next(n: usize, table: &[u8], k: RowNumber) -> bool
     false
 }
 
-// Whether the rows ascend strictly.
+// The byte at a place, as a digit.
+fn digit_at(table: &[u8], at: usize) -> usize
+    requires { ⌜ at < length (now table) ⌝ }
+    ensures { λ r. ⌜ (r ≡ getD (now (table .entry)) at 0) × (r < 256) ⌝ }
+{
+    table[at] as usize
+}
+
+// The row from a place on as a number, its exponents being the digits to base 256. Six bytes are read whatever n is, without a loop, and those
+// behind the row are dropped.
+fn key_at(n: usize, table: &[u8], at: usize) -> usize
+    requires { ⌜ (0 < n) × (n ≤ 6) × (at + 6 ≤ length (now table)) ⌝ }
+    ensures { λ r. ⌜ r ≡ rowKey (take n (drop at (now (table .entry)))) n ⌝ }
+{
+    let a = digit_at(table, at);
+    let b = digit_at(table, at + 1);
+    let c = digit_at(table, at + 2);
+    let d = digit_at(table, at + 3);
+    let e = digit_at(table, at + 4);
+    let f = digit_at(table, at + 5);
+    let six = ((((a * 256 + b) * 256 + c) * 256 + d) * 256 + e) * 256 + f;
+    six >> (48 - 8 * n)
+}
+
+// So many rows from the first on ascend strictly, by their numbers. It stops at the first pair that does not, and where six bytes are no longer
+// there: near the table's end.
+fn ascending_front(n: usize, table: &[u8]) -> usize
+    requires { ⌜ 0 < n ⌝ }
+    ensures { λ r. ⌜ FrontAscends n (now (table .entry)) r ⌝ }
+{
+    if 6 < n {
+        return 1;
+    }
+    if table.len() < 6 {
+        return 1;
+    }
+    let last = table.len() - 6;
+    let mut before = key_at(n, table, 0);
+    let mut k = 1;
+    let mut at = n;
+    while at <= last {
+        let key = key_at(n, table, at);
+        if key <= before {
+            return k;
+        }
+        before = key;
+        k += 1;
+        at += n;
+    }
+    k
+}
+
+// Whether the rows ascend strictly. Most are told by their numbers, the last few byte by byte.
 pub fn ascends(n: usize, table: &[u8]) -> bool
     requires { ⌜ 0 < n ⌝ }
     ensures { λ r. ⌜ r ≡ ascendingTest (rows n (now (table .entry))) ⌝ }
 {
     let count = table.len() / n;
-    let mut k = 1;
+    let mut k = ascending_front(n, table);
     while k < count {
         if !precedes_next(n, table, RowNumber(k - 1)) {
             return false;

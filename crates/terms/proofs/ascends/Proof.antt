@@ -8,45 +8,54 @@ use denote.Ref.{now}
 use native.Mathlib.Nat.{div-le-self}
 use borrow.Author.Tests.{not-true, not-false}
 use Rattle.checks.proofs.TestLaws.{tests-true}
-use Rattle.terms.specs.Monomials.{rowAt}
-use Rattle.terms.specs.Order.{Precedes}
 use Rattle.terms.specs.Rows.{rows}
+use Rattle.terms.specs.Keys.{FrontAscends}
 use Rattle.terms.proofs.OrderLaws.{tests-ascending}
 use Rattle.terms.proofs.RowsLaws.{length-rows}
-use Rattle.terms.proofs.LoopLaws.{breaks, ascends-next}
+use Rattle.terms.proofs.LoopLaws.{breaks}
+use Rattle.terms.proofs.KeyLaws.{front-more}
 use Rattle.terms.proofs.ascends.Statement.{statement}
 use Rattle.terms.proofs.ascends.Tie as tie
 
 abbrev Inv-loop : tie.InvT-loop
-Inv-loop n table count k₀ k = (0 < k) × ((r : ℕ) → suc r < k → Precedes (rowAt (rows n table) r) (rowAt (rows n table) (suc r)))
+Inv-loop n table count k₀ k = FrontAscends n table k
 
 abbrev μ-loop : tie.MeasureT-loop
 μ-loop n table count k₀ k = count - k
 
+-- where the function begins, from the loop
+abbrev start : tie.At-loop Inv-loop μ-loop → tie.Start Inv-loop μ-loop
+start c = c .before .before .before
+
 div-count : tie.Need-div-count Inv-loop μ-loop
 div-count c = search needs
 
+ascending-front-requires : tie.Need-ascending-front-requires Inv-loop μ-loop
+ascending-front-requires c κs = search needs
+
 loop-holds : tie.Need-loop-holds Inv-loop μ-loop
-loop-holds c = (omega arith, λ r l. absurd (omega arith))
+loop-holds c = c .ascending-front .ensures
 
 sub-t7 : tie.Need-sub-t7 Inv-loop μ-loop
-sub-t7 c = omega arith
+sub-t7 c = omega (arith, c .before .loop .inv .some)
 
 precedes-next-requires : tie.Need-precedes-next-requires Inv-loop μ-loop
 precedes-next-requires c κs =
-    let a = c .before .before .before .args in
-    omega (arith, length-rows (a .n) (a .table .now))
+    let o = c .before in
+    let a = start o .args in
+    omega (arith, length-rows (a .n) (a .table .now), o .loop .inv .some)
 
 returns : tie.Need-returns Inv-loop μ-loop
 returns c =
-    let a = c .before .before .before .before .before .args in
-    let l = c .before .before .before .loop in
+    let o = c .before .before .before in
+    let a = start o .args in
+    let l = o .loop in
     let G = rows (a .n) (a .table .now) in
-    breaks G (l .k - 1) (omega (arith, length-rows (a .n) (a .table .now))) (sym (not-true _ (c .if1 .taken)) ∙ c .before .precedes-next .ensures)
+    breaks G (l .k - 1) (omega (arith, length-rows (a .n) (a .table .now), l .inv .some)) (sym (not-true _ (c .if1 .taken)) ∙ c .before .precedes-next .ensures)
 
 add-k : tie.Need-add-k Inv-loop μ-loop
 add-k c =
-    let a = c .before .before .before .before .before .args in
+    let a = start (c .before .before .before) .args in
     omega (arith, div-le-self (length (a .table .now)) (a .n))
 
 loop-less : tie.Need-loop-less Inv-loop μ-loop
@@ -54,16 +63,16 @@ loop-less c = omega arith
 
 loop-again : tie.Need-loop-again Inv-loop μ-loop
 loop-again c =
-    let a = c .before .before .before .before .before .args in
-    let l = c .before .before .before .loop in
-    let G = rows (a .n) (a .table .now) in
-    (omega arith, ascends-next G (l .k) (l .inv .0) (sym (not-false _ (c .if1 .left)) ∙ c .before .precedes-next .ensures) (l .inv .1))
+    let o = c .before .before .before in
+    let a = start o .args in
+    front-more (o .loop .inv) (sym (not-false _ (c .if1 .left)) ∙ c .before .precedes-next .ensures)
 
 returns-2 : tie.Need-returns-2 Inv-loop μ-loop
 returns-2 c =
-    let a = c .before .before .before .args in
+    let o = c .before in
+    let a = start o .args in
     let G = rows (a .n) (a .table .now) in
-    tests-true (tests-ascending G) (λ r h. c .before .loop .inv .1 r (omega (arith, length-rows (a .n) (a .table .now))))
+    tests-true (tests-ascending G) (λ r h. o .loop .inv .ascends r (omega (arith, length-rows (a .n) (a .table .now))) h)
 
 pub ascends-spec : {M : Type 1} → statement M
 ascends-spec =
@@ -72,6 +81,7 @@ ascends-spec =
     Inv-loop
     μ-loop
     div-count
+    ascending-front-requires
     loop-holds
     sub-t7
     precedes-next-requires

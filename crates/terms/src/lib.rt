@@ -159,7 +159,7 @@ fn ascending_front(n: usize, table: &[u8]) -> usize
     requires { ⌜ 0 < n ⌝ }
     ensures { λ r. ⌜ FrontAscends n (now (table .entry)) r ⌝ }
 {
-    if 6 < n {
+    if n > 6 {
         return 1;
     }
     if table.len() < 6 {

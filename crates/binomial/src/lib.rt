@@ -1,4 +1,6 @@
 // Binomials from a constant table (rule 10). Callers know them by `choose` alone: that they stand in a table is nobody's business above.
+#![tactic(auto)]
+
 ghost use Rattle.std.specs.Prelude.{◌≡◌, ◌≤◌};
 ghost use Rattle.binomial.specs.Choose.{choose};
 

@@ -1,4 +1,6 @@
 // The bundle reader: which table a number names, where its bytes stand, and which check refuses.
+#![tactic(auto)]
+
 ghost use Rattle.std.specs.Prelude.{◌≡◌, ◌++◌, ◌+◌, ◌*◌, ◌≤◌, ◌<◌, length};
 ghost use Rattle.checks.specs.Refusals.{refusal};
 ghost use Rattle.distinct.specs.EqualRows.{equal_rows_test};
@@ -13,7 +15,7 @@ pub const MOST_BYTES: usize = 65535;
 pub const MOST_TABLES: usize = 16;
 
 // Where a table stands: its n, its row count and the place where its bytes begin; the numbers beside a refusal are 0.
-#[derive(Drop)]
+#[derive(Clone, Copy)]
 pub struct Located {
     pub refusal: u8,
     pub n: usize,
@@ -212,7 +214,7 @@ pub fn locate(bundle: &[u8], j: usize) -> Located
 
 // A table shown: the part of the lent bundle that it is, with its n and its row count beside it. The numbers beside a
 // refusal are 0, and the part is empty: it begins at the bundle's own start.
-#[derive(Drop)]
+#[derive(Clone, Copy)]
 pub struct OpenedTable<'a> {
     pub bytes: &'a [u8],
     pub n: usize,

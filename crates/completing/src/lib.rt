@@ -1,4 +1,6 @@
 // The completed table of a table (rule 5), by slices of the first variable: the operation `complete`.
+#![tactic(auto)]
+
 ghost use Rattle.std.specs.Prelude.{◌≡◌, ◌*◌, ◌≤◌, ◌<◌, length};
 ghost use Rattle.checks.specs.Refusals.{refusal};
 ghost use Rattle.distinct.specs.EqualRows.{distinct_checks};
@@ -11,7 +13,7 @@ use terms::{MOST_ROWS, Row};
 use writing::copy_from;
 
 // What `complete` answers: how many rows it wrote, or the number of the refusal.
-#[derive(Drop)]
+#[derive(Clone, Copy)]
 pub enum CompleteAnswer {
     Rows(usize),
     Refused(u8),

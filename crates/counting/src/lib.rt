@@ -1,4 +1,6 @@
 // Counts above the division (rules 7 to 9): count, polynomial and steady of a complete table.
+#![tactic(auto)]
+
 ghost use Rattle.std.specs.Prelude.{◌≡◌};
 ghost use Rattle.checks.specs.Refusals.{refusal};
 ghost use Rattle.terms.specs.TableChecks.{TableAccepted};
@@ -10,21 +12,21 @@ use summing::{count_sum, largest_degree, polynomial_sum};
 use terms::{Degree, MOST_ROWS, ascends, table_refusal};
 
 // What `count` answers.
-#[derive(Drop)]
+#[derive(Clone, Copy)]
 pub enum CountAnswer {
     Value(u64),
     Refused(u8),
 }
 
 // What `polynomial` answers.
-#[derive(Drop)]
+#[derive(Clone, Copy)]
 pub enum PolynomialAnswer {
     Value(i64),
     Refused(u8),
 }
 
 // What `steady` answers.
-#[derive(Drop)]
+#[derive(Clone, Copy)]
 pub enum SteadyAnswer {
     At(Degree),
     Refused(u8),

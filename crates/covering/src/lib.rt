@@ -1,4 +1,6 @@
 // The check whether an ascending table is complete (rule 4): marks, and one descent for each row and variable without a mark.
+#![tactic(auto)]
+
 ghost use Rattle.std.specs.Prelude.{◌≡◌, ◌≤◌, ◌<◌};
 ghost use Rattle.terms.specs.Monomials.{◌!◌, AtMost, times};
 ghost use Rattle.terms.specs.Rows.{rows, monomial_of};

@@ -1,5 +1,7 @@
 // Whether two rows of a table are equal: the check 12. Rows that ascend are not, and one pass tells; others are listed in order, where equal
 // rows are neighbours.
+#![tactic(auto)]
+
 ghost use Rattle.std.specs.Prelude.{◌≡◌, ◌≤◌, ◌<◌, length};
 ghost use Rattle.checks.specs.Refusals.{refusal};
 ghost use Rattle.terms.specs.Monomials.{row_at};

@@ -1,5 +1,7 @@
 // The descent (rule 6) over ascending rows. A group is a range of rows; stepping along one variable calls for the next
 // variable, which calls for stepping again.
+#![tactic(auto)]
+
 pub mod search;
 
 ghost use Rattle.std.specs.Prelude.{◌≡◌, suc, ◌+◌, ◌-◌, ◌≤◌, ◌<◌, length};
@@ -18,7 +20,7 @@ use terms::{RowNumber, Variable, ascends, exponent, table_refusal};
 
 // What a descent gives: what it found, the number of exponents stepped on, and the variable at which it ended with
 // nothing, 0 where it found a row.
-#[derive(Drop)]
+#[derive(Clone, Copy)]
 pub struct Descended {
     pub found: Found,
     pub steps: usize,
@@ -27,7 +29,7 @@ pub struct Descended {
 
 // Where stepping along a variable ended: the rows `low` to before `high` have the last exponent stepped on, and `steps`
 // exponents were stepped on before it.
-#[derive(Drop)]
+#[derive(Clone, Copy)]
 struct Run {
     low: RowNumber,
     high: RowNumber,
@@ -163,7 +165,7 @@ pub fn descend_table(n: usize, table: &[u8], query: &[u8]) -> Descended
 }
 
 // The answer of `find`: the Janet divisor's row number with the steps, none with the steps, or a refusal.
-#[derive(Drop)]
+#[derive(Clone, Copy)]
 pub enum FindAnswer {
     Row(RowNumber, usize),
     Nothing(usize),

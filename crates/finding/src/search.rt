@@ -8,7 +8,7 @@ ghost use Rattle.finding.specs.Stepping.{Searched, Between};
 use terms::{RowNumber, Variable, exponent};
 
 // Two rows of a range: the exponent of row `low` does not exceed a given one, that of row `high` does, or `high` is the range's end.
-#[derive(Drop)]
+#[derive(Clone, Copy)]
 struct Bracket {
     low: RowNumber,
     high: RowNumber,

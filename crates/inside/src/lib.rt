@@ -1,4 +1,6 @@
 // Inside (rule 1): the first given row that divides a query.
+#![tactic(auto)]
+
 ghost use Rattle.std.specs.Prelude.{◌≡◌, ◌≤◌, ◌<◌, length};
 ghost use Rattle.terms.specs.Monomials.{row_at};
 ghost use Rattle.terms.specs.Rows.{rows};
@@ -13,7 +15,7 @@ use division::Found;
 use terms::{Row, RowNumber, divides, row_at};
 
 // The answer of `inside`: the first row that divides the query, that none does, or a refusal.
-#[derive(Drop)]
+#[derive(Clone, Copy)]
 pub enum InsideAnswer {
     Row(RowNumber),
     Nothing,

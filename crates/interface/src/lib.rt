@@ -1,6 +1,8 @@
 // The operations for programs in C and Rust: each returns the number of its refusal, 0 for an answer. Numbers handed out
 // through a reference are answers, and become 0 on a refusal; lent buffers keep their bytes then. include/rocaplanh.h has the
 // declarations.
+#![tactic(auto)]
+
 ghost use Rattle.interface.specs.Exports.{MarksExport, InsideExport, CompleteExport, FindExport, CountExport, PolynomialExport, SteadyExport};
 ghost use Rattle.interface.specs.Exports.{OpenExport, WriteExport};
 

@@ -1,5 +1,7 @@
 // The program: reads a bundle on standard input and writes its listing on standard output. It only reads, calls and
 // writes; every byte of the listing is made by the library.
+#![tactic(auto)]
+
 ghost use Rattle.std.specs.Prelude.{◌≡◌};
 ghost use Rattle.checks.specs.Refusals.{refusal};
 ghost use Rattle.bundle.specs.Checks.{bundle_checks};

@@ -1,5 +1,7 @@
 // The text that the program writes, as bytes in a lent buffer. Each writer puts its text from a place on, leaves every
 // other byte as it was, and answers the place behind the text.
+#![tactic(auto)]
+
 ghost use Rattle.std.specs.Prelude.{◌≡◌, [], ◌∷◌, ◌++◌, ◌+◌, ◌≤◌, ◌<◌, length};
 ghost use Rattle.terms.specs.Rows.{rows, monomial_of};
 ghost use Rattle.checks.specs.Refusals.{refusal};

@@ -1,4 +1,6 @@
 // Marks (rule 2): one byte for each row, at the front of a lent buffer. The rows may stand in any order.
+#![tactic(auto)]
+
 pub mod next_row;
 
 ghost use Rattle.std.specs.Prelude.{◌≡◌, ◌≤◌, length};
@@ -16,7 +18,7 @@ use ordering::{list_rows, row_listed};
 use terms::{MOST_ROWS, RowNumber, ascends, row_at, table_refusal};
 
 // The answer of `marks`: that they are written, or a refusal.
-#[derive(Drop)]
+#[derive(Clone, Copy)]
 pub enum MarksAnswer {
     Done,
     Refused(u8),

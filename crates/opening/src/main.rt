@@ -1,5 +1,7 @@
 // Tables opened out of bundles, a line for each: the number of the refusal, n, the row count, and the bytes that are shown. Beside a refusal
 // n and the row count are 0, and no byte is shown.
+#![tactic(auto)]
+
 
 // A byte as a number to print.
 fn wide(byte: u8) -> u64 {

@@ -1,4 +1,6 @@
 // The bundle writer: tables given as row counts and rows end to end, written as one bundle into a lent buffer.
+#![tactic(auto)]
+
 ghost use Rattle.std.specs.Prelude.{◌≡◌, false, [], ◌∷◌, ◌+◌, ◌*◌, ◌≤◌, ◌<◌, ltb, length, get_or};
 ghost use Rattle.checks.specs.Tests.{any};
 ghost use Rattle.checks.specs.Refusals.{refusal};
@@ -14,7 +16,7 @@ use terms::{MOST_ROWS, has_large_entry};
 use writing::{copy_from, put_byte};
 
 // What `write_bundle` answers: the bundle's length, or the number of the refusal.
-#[derive(Drop)]
+#[derive(Clone, Copy)]
 pub enum WriteAnswer {
     Length(usize),
     Refused(u8),

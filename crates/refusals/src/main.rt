@@ -1,5 +1,7 @@
 // Tables that the checks 1 to 4 and 12 refuse, and tables at their edge that pass: the number of each, a line each. The groups of 1 to 4 have
 // equal rows, which these checks pass over.
+#![tactic(auto)]
+
 fn show(n: usize, table: &[u8]) {
     io::print_decimal(1, terms::table_refusal(n, table) as u64);
     io::write_all(1, b"\n");

@@ -1,4 +1,6 @@
 // The sums over the rows of a checked table, without the checks: a caller that wants many degrees of one table checks once.
+#![tactic(auto)]
+
 ghost use Rattle.std.specs.Prelude.{◌≡◌, ◌+◌, ◌≤◌, ◌<◌, length, pos, ◌-ℤ◌};
 ghost use Rattle.terms.specs.Monomials.{row_at, degree};
 ghost use Rattle.terms.specs.Rows.{rows};
@@ -12,7 +14,7 @@ use terms::{Degree, RowNumber};
 const KNOWN_SIZES: usize = (300 + 1) * (6 + 1);
 
 // A share of rule 8, or a sum of such shares: what counts for it, and what counts against it.
-#[derive(Drop)]
+#[derive(Clone, Copy)]
 struct SignedShare {
     plus: u64,
     minus: u64,

@@ -1,5 +1,7 @@
 // What every operation stands on: a row by value, the three counters, rows of a flat table, divisibility, the order
 // of rows, and the checks 1 to 4 that all operations on a table share.
+#![tactic(auto)]
+
 ghost use Rattle.std.specs.Prelude.{◌≡◌, suc, ◌+◌, ◌*◌, ◌≤◌, ◌<◌, ltb, length, take, drop, get_or};
 ghost use Rattle.checks.specs.Tests.{any};
 ghost use Rattle.terms.specs.Monomials.{◌!◌, row_at, LargestOf};
@@ -16,22 +18,22 @@ pub const MOST_ROWS: usize = 4096;
 const LARGEST_ENTRY: u8 = 50;
 
 // A row: its six exponents, of which the first n count and the others are 0.
-#[derive(Drop)]
+#[derive(Clone, Copy)]
 pub struct Row {
     pub exponents: [u8; 6],
     pub n: usize,
 }
 
 // The number of a variable, from 1; 0 is no variable.
-#[derive(Drop)]
+#[derive(Clone, Copy)]
 pub struct Variable(pub usize);
 
 // A total degree.
-#[derive(Drop)]
+#[derive(Clone, Copy)]
 pub struct Degree(pub usize);
 
 // The number of a row, from 0.
-#[derive(Drop)]
+#[derive(Clone, Copy)]
 pub struct RowNumber(pub usize);
 
 // The byte at a place of the row of n bytes from `base` on, 0 past its end.

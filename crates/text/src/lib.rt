@@ -1,4 +1,6 @@
 // Text as bytes in a lent buffer. Each writer puts its text from a place on, leaves every other byte as it was, and answers the place behind the text.
+#![tactic(auto)]
+
 ghost use Rattle.std.specs.Prelude.{◌+◌, ◌≤◌, length};
 ghost use Rattle.text.specs.Decimal.{decimal, field};
 ghost use Rattle.writing.specs.Written.{Wrote};

@@ -1,4 +1,6 @@
 // Bytes written into a lent buffer: one byte, and copies. Every other byte stays as it was.
+#![tactic(auto)]
+
 ghost use Rattle.std.specs.Prelude.{◌≡◌, [], ◌∷◌, ◌+◌, ◌≤◌, ◌<◌, length, drop};
 ghost use Rattle.std.proofs.Math.Seq.{paste};
 ghost use Rattle.writing.specs.Written.{Wrote};

@@ -35,7 +35,7 @@ use Rattle.terms.specs.Ideal.{Divides, Inside, SameIdeal}
 use Rattle.terms.proofs.MonomialLaws.{before_first}
 use Rattle.terms.proofs.IdealLaws.{tests_inside, inside?, inside_up, inside_none, divides_refl, same_ideal_sym}
 use Rattle.completion.specs.Completed.{Enters, Completed, CompletedTable}
-use Rattle.completion.specs.Slices.{head, slice, at, below, under, front, heads, fresh, lengthened}
+use Rattle.completion.specs.Slices.{slice, at, below, under, front, heads, fresh, lengthened}
 use Rattle.completion.proofs.BlockLaws.{Lists, lists_as, lists_none, lists_one, Heads, heads_as, heads_front, repeat_lists, behind_lists, cons_of}
 use Rattle.completion.proofs.BlockLaws.{cons_same}
 use Rattle.completion.proofs.RuleFive.{completed_ideal, table_ideal}

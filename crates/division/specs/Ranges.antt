@@ -6,7 +6,6 @@
 --   with_steps s d    the descent d, with s steps taken before it
 --   descend_from n G q i lo hi   rule 6 from variable i on, in the group of the rows lo to before hi
 use Rattle.std.specs.Prelude.{List, ℕ, suc, ◌+◌, ◌-◌, ◌≤◌, ◌<◌, length}
-use Rattle.std.proofs.Math.Option.{none, some}
 use Rattle.terms.specs.Monomials.{Monomial, Table, ◌!◌, row_at, SameBefore}
 use Rattle.division.specs.Descent.{Descent, numbers_from, descend}
 

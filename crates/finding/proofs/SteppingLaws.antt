@@ -20,7 +20,7 @@ use native.Mathlib.Omega.{arith}
 use lib.ListN.{length, get_or}
 use Rattle.terms.specs.Monomials.{Monomial, Table, ◌!◌, row_at}
 use Rattle.terms.specs.Order.{Ascending}
-use Rattle.division.specs.Descent.{Descent, first, last, numbers_from, descend, descent}
+use Rattle.division.specs.Descent.{Descent, first, numbers_from, descend, descent}
 use Rattle.division.proofs.DescentLaws.{descent_empty}
 use Rattle.division.specs.Ranges.{range, GroupRange, FirstLarger, with_steps, descend_from}
 use Rattle.finding.specs.Stepping.{Between, Reached, AtRun}

@@ -32,7 +32,6 @@ use Rattle.inside.specs.Operation.{inside_checks, inside_row, inside_gives, insi
 use Rattle.inside.specs.declared.InsideAnswer.{InsideAnswer}
 use Rattle.inside.specs.declared.InsideAnswer.TheVariants.{Row, Nothing, Refused}
 use Rattle.division.specs.declared.Found.{Found}
-use Rattle.division.specs.declared.Found.TheVariants as Found
 use Rattle.division.proofs.RangeLaws.{found_some, found_none}
 use Rattle.inside.proofs.FirstLaws.{divides_first, first_padded}
 

@@ -19,8 +19,7 @@ use terms::Degree;
 const NO_ROW: u32 = 65535;
 
 // The marks of each row, a byte a row at the front of the lent buffer.
-#[unsafe(no_mangle)]
-pub extern "C" fn rocaplanh_marks(n: usize, table: &[u8], buffer: &mut [u8]) -> u32
+pub fn rocaplanh_marks(n: usize, table: &[u8], buffer: &mut [u8]) -> u32
     ensures { MarksExport n table.now buffer.old result buffer.new }
 {
     let answer = marks(n, table, buffer);
@@ -31,8 +30,7 @@ pub extern "C" fn rocaplanh_marks(n: usize, table: &[u8], buffer: &mut [u8]) -> 
 }
 
 // The first given row that divides the query, 65,535 for none.
-#[unsafe(no_mangle)]
-pub extern "C" fn rocaplanh_inside(n: usize, table: &[u8], query: &[u8], row: &mut u32) -> u32
+pub fn rocaplanh_inside(n: usize, table: &[u8], query: &[u8], row: &mut u32) -> u32
     ensures { InsideExport n table.now query.now result row.new }
 {
     let answer = inside(n, table, query);
@@ -54,13 +52,7 @@ pub extern "C" fn rocaplanh_inside(n: usize, table: &[u8], query: &[u8], row: &m
 }
 
 // The completed table at the front of the lent buffer, and the number of its rows.
-#[unsafe(no_mangle)]
-pub extern "C" fn rocaplanh_complete(
-    n: usize,
-    table: &[u8],
-    buffer: &mut [u8],
-    count: &mut u32,
-) -> u32
+pub fn rocaplanh_complete(n: usize, table: &[u8], buffer: &mut [u8], count: &mut u32) -> u32
     ensures { CompleteExport n table.now buffer.old result count.new buffer.new }
 {
     let answer = complete(n, table, buffer);
@@ -77,14 +69,7 @@ pub extern "C" fn rocaplanh_complete(
 }
 
 // The row number of the query's Janet divisor, 65,535 for none, and the number of exponents stepped on.
-#[unsafe(no_mangle)]
-pub extern "C" fn rocaplanh_find(
-    n: usize,
-    table: &[u8],
-    query: &[u8],
-    row: &mut u32,
-    steps: &mut u32,
-) -> u32
+pub fn rocaplanh_find(n: usize, table: &[u8], query: &[u8], row: &mut u32, steps: &mut u32) -> u32
     ensures { FindExport n table.now query.now result row.new steps.new }
 {
     let answer = find(n, table, query);
@@ -109,8 +94,7 @@ pub extern "C" fn rocaplanh_find(
 }
 
 // The number of monomials up to a degree outside the ideal of a complete table.
-#[unsafe(no_mangle)]
-pub extern "C" fn rocaplanh_count(n: usize, table: &[u8], degree: u32, value: &mut u64) -> u32
+pub fn rocaplanh_count(n: usize, table: &[u8], degree: u32, value: &mut u64) -> u32
     ensures { CountExport n table.now degree result value.new }
 {
     let answer = count(n, table, Degree(degree as usize));
@@ -127,8 +111,7 @@ pub extern "C" fn rocaplanh_count(n: usize, table: &[u8], degree: u32, value: &m
 }
 
 // The polynomial of a complete table at a degree.
-#[unsafe(no_mangle)]
-pub extern "C" fn rocaplanh_polynomial(n: usize, table: &[u8], degree: u32, value: &mut i64) -> u32
+pub fn rocaplanh_polynomial(n: usize, table: &[u8], degree: u32, value: &mut i64) -> u32
     ensures { PolynomialExport n table.now degree result value.new }
 {
     let answer = polynomial(n, table, Degree(degree as usize));
@@ -145,8 +128,7 @@ pub extern "C" fn rocaplanh_polynomial(n: usize, table: &[u8], degree: u32, valu
 }
 
 // The steady degree of a complete table.
-#[unsafe(no_mangle)]
-pub extern "C" fn rocaplanh_steady(n: usize, table: &[u8], degree: &mut u32) -> u32
+pub fn rocaplanh_steady(n: usize, table: &[u8], degree: &mut u32) -> u32
     ensures { SteadyExport n table.now result degree.new }
 {
     let answer = steady(n, table);
@@ -164,8 +146,7 @@ pub extern "C" fn rocaplanh_steady(n: usize, table: &[u8], degree: &mut u32) -> 
 }
 
 // Table j of a bundle: its n, its row count, and the offset at which its body begins in the bundle.
-#[unsafe(no_mangle)]
-pub extern "C" fn rocaplanh_open(
+pub fn rocaplanh_open(
     bundle: &[u8],
     table: usize,
     n: &mut u32,
@@ -182,8 +163,7 @@ pub extern "C" fn rocaplanh_open(
 }
 
 // The bundle of tables, given by their row counts and their rows end to end, at the front of the lent buffer, and its length.
-#[unsafe(no_mangle)]
-pub extern "C" fn rocaplanh_write(
+pub fn rocaplanh_write(
     n: usize,
     counts: &[u16],
     tables: &[u8],

@@ -2,7 +2,6 @@
 // n and the row count are 0, and no byte is shown.
 #![tactic(auto)]
 
-
 // A byte as a number to print.
 fn wide(byte: u8) -> u64 {
     byte as u64

@@ -33,7 +33,7 @@ use mir.Val.{SFits}
 use Rattle.binomial.specs.Choose.{choose}
 use Rattle.binomial.proofs.ChooseLaws.{choose_over, choose_within}
 use Rattle.checks.specs.Tests.{pick}
-use Rattle.terms.specs.Monomials.{Monomial, Table, row_at, degree}
+use Rattle.terms.specs.Monomials.{Table, row_at, degree}
 use Rattle.terms.specs.Rows.{rows}
 use Rattle.terms.proofs.RowsLaws.{length_rows, rows_size, zeros_at}
 use Rattle.terms.proofs.TableLaws.{degree_small}

@@ -1,9 +1,7 @@
 use native.Mathlib.Omega.{arith}
 use mathlib.Core.Path.{◌≡◌, sym, ◌∙◌}
-use mathlib.Core.Bool.{true}
-use Prim.Native.Nat.{suc, ◌+◌, ◌-◌, ◌/◌, ◌%◌, ◌<◌, ◌^◌}
+use Prim.Native.Nat.{suc, ◌+◌, ◌/◌, ◌%◌, ◌<◌, ◌^◌}
 use native.Mathlib.Numerals.{add-one}
-use borrow.Author.Tests.{not-false}
 use Rattle.terms.specs.Monomials.{times}
 use Rattle.terms.specs.Rows.{rows, monomial_of}
 use Rattle.division.specs.Janet.{marks_of, covered_test}
@@ -36,7 +34,7 @@ loop-i-preserved c =
     let i : l.i < a.row.n = omega arith in (
       omega arith,
       each_goes_on l.i (variable_test G u) l.invariant.1 (elim c.if-marks-i-eq0.branch [
-        then-marks-i-eq0+else-not-covered x ↦
+        | then-marks-i-eq0+else-not-covered x ↦
             let z : marks_of a.row.n G u / 2 ^ l.i % 2 ≡ 0 = rw c.requires.2 at x.if-marks-i-eq0.true in
             let e : x.covered.result ≡ covered_test G (times u (suc l.i) 1) = rw add-one at x.covered.ensures in
             unmarked_variable a.row.n G u l.i i z ∙ sym e ∙ x.if-not-covered.false

@@ -1,7 +1,7 @@
 use mathlib.Core.Bool.{Bool}
 use native.Mathlib.Omega.{arith}
 use mathlib.Core.Path.{◌≡◌, sym, ◌∙◌}
-use mathlib.Core.Bool.{Bool, true}
+use mathlib.Core.Bool.{Bool}
 use Prim.Native.Nat.{suc, ◌-◌, ◌/◌}
 use lib.ListN.{length}
 use Rattle.terms.specs.Monomials.{Table, row_at}

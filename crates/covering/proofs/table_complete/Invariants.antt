@@ -1,7 +1,7 @@
 -- Invariant: `row` is row k, the marks are its marks, and the test holds of row k and all behind it. The last row has every mark, so it holds there.
 use mathlib.Core.Path.{◌≡◌}
 use mathlib.Core.Bool.{true}
-use Prim.Native.Nat.{◌-◌, ◌<◌}
+use Prim.Native.Nat.{◌<◌}
 use lib.ListN.{length, drop}
 use Rattle.checks.specs.Tests.{all}
 use Rattle.terms.specs.Monomials.{row_at}

@@ -1,5 +1,5 @@
 -- The rows are equal behind variable i.
-use Prim.Native.Nat.{◌-◌, ◌≤◌}
+use Prim.Native.Nat.{◌≤◌}
 use Rattle.terms.specs.Monomials.{row_at}
 use Rattle.terms.specs.Rows.{rows}
 use Rattle.distinct.proofs.EqualLaws.{SameBehind}

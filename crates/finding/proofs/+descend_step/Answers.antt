@@ -1,6 +1,6 @@
 use native.Mathlib.Omega.{arith}
 use mathlib.Core.Path.{ap, ◌∙◌}
-use Prim.Native.Nat.{◌+◌, ◌<◌}
+use Prim.Native.Nat.{◌<◌}
 use Rattle.finding.specs.Stepping.{descended}
 use Rattle.finding.proofs.SteppingLaws.{read_at, reached_end, reached_none, run_gap, run_down, run_shared}
 use Rattle.finding.proofs.+descend_step.Goals as goal
@@ -45,6 +45,6 @@ step-returns t c =
     let e = read_at a.query.now a.i.0 c.requires.1.variable in
     let w = c.along-last in
     c.descend.ensures ∙ ap descended (run_down c.requires.0 w.ensures.run w.ensures.beyond (λ l. elim c.if-high-hi.branch [
-      step-then-high-hi+else-exponent-most y ↦ omega (arith, e, y.if-exponent-most.false, y.exponent-then-high-hi.ensures)
+      | step-then-high-hi+else-exponent-most y ↦ omega (arith, e, y.if-exponent-most.false, y.exponent-then-high-hi.ensures)
       | step-else-high-hi y ↦ omega (arith, y.if-high-hi.false)
     ]))

@@ -1,5 +1,5 @@
 use native.Mathlib.Omega.{arith}
-use Prim.Native.Nat.{◌+◌, ◌-◌}
+use Prim.Native.Nat.{◌+◌}
 use Rattle.terms.specs.Rows.{rows}
 use Rattle.finding.specs.Stepping.{Reached}
 use Rattle.finding.proofs.SteppingLaws.{read_at, reached_above, run_next}

@@ -1,6 +1,6 @@
 -- From row k on the marks are written, `row` is row k, and `marks` are its marks.
 use mathlib.Core.Path.{◌≡◌}
-use Prim.Native.Nat.{◌-◌, ◌<◌}
+use Prim.Native.Nat.{◌<◌}
 use Rattle.terms.specs.Monomials.{row_at}
 use Rattle.terms.specs.Rows.{rows, as_row}
 use Rattle.division.specs.Janet.{marks_of, table_marks}

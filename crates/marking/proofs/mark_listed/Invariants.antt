@@ -1,6 +1,6 @@
 -- The rows listed from place k on are marked, `row` is the row at place k, and `marks` are its marks.
 use mathlib.Core.Path.{◌≡◌}
-use Prim.Native.Nat.{◌-◌, ◌<◌}
+use Prim.Native.Nat.{◌<◌}
 use Rattle.terms.specs.Rows.{rows, as_row}
 use Rattle.division.specs.Janet.{marks_of}
 use Rattle.ordering.specs.Listing.{listed}

@@ -115,26 +115,26 @@ append_completed-returns t c =
 pub take_head-overflow_mul-base : goal.take_head-overflow_mul-base
 take_head-overflow_mul-base t c =
     let sizes : HeadRoom c.args.rest c.args.rows c.args.a c.args.work.now c.args.next.now c.args.progress =
-        head_room c.requires.7.3 c.requires.0 c.requires.1 c.args.next.now c.requires.3 in
+    head_room c.requires.7.3 c.requires.0 c.requires.1 c.args.next.now c.requires.3 in
     omega arith
 
 pub take_head-overflow_mul-count : goal.take_head-overflow_mul-count
 take_head-overflow_mul-count t c =
     let sizes : HeadRoom c.args.rest c.args.rows c.args.a c.args.work.now c.args.next.now c.args.progress =
-        head_room c.requires.7.3 c.requires.0 c.requires.1 c.args.next.now c.requires.3 in
+    head_room c.requires.7.3 c.requires.0 c.requires.1 c.args.next.now c.requires.3 in
     omega arith
 
 pub take_head-overflow_add-base-2 : goal.take_head-overflow_add-base-2
 take_head-overflow_add-base-2 t c =
     let sizes : HeadRoom c.args.rest c.args.rows c.args.a c.args.work.now c.args.next.now c.args.progress =
-        head_room c.requires.7.3 c.requires.0 c.requires.1 c.args.next.now c.requires.3 in
+    head_room c.requires.7.3 c.requires.0 c.requires.1 c.args.next.now c.requires.3 in
     omega arith
 
 -- the tails of a lie behind the generators, with room for them
 pub take_head-take_tails-more-requires : goal.take_head-take_tails-more-requires
 take_head-take_tails-more-requires t c =
     let sizes : HeadRoom c.args.rest c.args.rows c.args.a c.args.work.now c.args.next.now c.args.progress =
-        head_room c.requires.7.3 c.requires.0 c.requires.1 c.args.next.now c.requires.3 in
+    head_room c.requires.7.3 c.requires.0 c.requires.1 c.args.next.now c.requires.3 in
     let q = c.requires in
     (omega arith, omega arith, sizes.chained, q.0.limited, omega (arith, q.4, q.2), q.2, q.5, q.6)
 
@@ -142,7 +142,7 @@ take_head-take_tails-more-requires t c =
 pub take_head-grows-requires : goal.take_head-grows-requires
 take_head-grows-requires t c =
     let sizes : HeadRoom c.args.rest c.args.rows c.args.a c.args.work.now c.args.next.now c.args.progress =
-        head_room c.requires.7.3 c.requires.0 c.requires.1 c.args.next.now c.requires.3 in
+    head_room c.requires.7.3 c.requires.0 c.requires.1 c.args.next.now c.requires.3 in
     rw c.take_tails-more.ensures.0 (omega (arith, c.take_tails-more.auto.bytes))
 
 -- the tails add nothing
@@ -158,7 +158,7 @@ take_head-returns-then-not-grows t c =
 pub take_head-repeat_block-at-requires : goal.take_head-repeat_block-at-requires
 take_head-repeat_block-at-requires t c =
     let sizes : HeadRoom c.args.rest c.args.rows c.args.a c.args.work.now c.args.next.now c.args.progress =
-        head_room c.requires.7.3 c.requires.0 c.requires.1 c.args.next.now c.requires.3 in
+    head_room c.requires.7.3 c.requires.0 c.requires.1 c.args.next.now c.requires.3 in
     let q = c.requires in
     let v = q.0.variables in
     (sizes.block, q.7.3.within, q.0.holds, q.0.most, omega (arith, v), omega (arith, v), omega (arith, q.2), omega (arith, q.2))
@@ -168,8 +168,7 @@ pub take_head-returns-then-room-at : goal.take_head-returns-then-room-at
 take_head-returns-then-room-at t c =
     let six : length c.args.prefix.exponents ≡ 6 = search rules in
     let r = c.repeat_block-at in
-    let k = c.take_tails-more in
-    (
+    let k = c.take_tails-more in (
       refl,
       λ T start P S. head_full S c.requires.0 k.new.bytes k.auto.bytes k.ensures c.grows.ensures
           c.if-not-grows.false six
@@ -180,46 +179,46 @@ take_head-returns-then-room-at t c =
 pub take_head-overflow_add-all : goal.take_head-overflow_add-all
 take_head-overflow_add-all t c =
     let sizes : HeadRoom c.args.rest c.args.rows c.args.a c.args.work.now c.args.next.now c.args.progress =
-        head_room c.requires.7.3 c.requires.0 c.requires.1 c.args.next.now c.requires.3 in
+    head_room c.requires.7.3 c.requires.0 c.requires.1 c.args.next.now c.requires.3 in
     omega (arith, c.take_tails-more.ensures.0, c.requires.0.limited)
 
 -- the lent part of work begins behind the table
 pub take_head-slice_bounds-tails-count : goal.take_head-slice_bounds-tails-count
 take_head-slice_bounds-tails-count t c =
     let sizes : HeadRoom c.args.rest c.args.rows c.args.a c.args.work.now c.args.next.now c.args.progress =
-        head_room c.requires.7.3 c.requires.0 c.requires.1 c.args.next.now c.requires.3 in
+    head_room c.requires.7.3 c.requires.0 c.requires.1 c.args.next.now c.requires.3 in
     omega (arith, c.take_tails-more.auto.bytes)
 
 pub take_head-slice_bounds-tails-start : goal.take_head-slice_bounds-tails-start
 take_head-slice_bounds-tails-start t c =
     let sizes : HeadRoom c.args.rest c.args.rows c.args.a c.args.work.now c.args.next.now c.args.progress =
-        head_room c.requires.7.3 c.requires.0 c.requires.1 c.args.next.now c.requires.3 in
+    head_room c.requires.7.3 c.requires.0 c.requires.1 c.args.next.now c.requires.3 in
     omega (arith, c.take_tails-more.auto.bytes)
 
 -- that of next behind the rows of the table
 pub take_head-offset_bounds-next-rows : goal.take_head-offset_bounds-next-rows
 take_head-offset_bounds-next-rows t c =
     let sizes : HeadRoom c.args.rest c.args.rows c.args.a c.args.work.now c.args.next.now c.args.progress =
-        head_room c.requires.7.3 c.requires.0 c.requires.1 c.args.next.now c.requires.3 in
+    head_room c.requires.7.3 c.requires.0 c.requires.1 c.args.next.now c.requires.3 in
     omega arith
 
 pub take_head-slice_bounds-links-count : goal.take_head-slice_bounds-links-count
 take_head-slice_bounds-links-count t c =
     let sizes : HeadRoom c.args.rest c.args.rows c.args.a c.args.work.now c.args.next.now c.args.progress =
-        head_room c.requires.7.3 c.requires.0 c.requires.1 c.args.next.now c.requires.3 in
+    head_room c.requires.7.3 c.requires.0 c.requires.1 c.args.next.now c.requires.3 in
     omega arith
 
 pub take_head-slice_bounds-links-start : goal.take_head-slice_bounds-links-start
 take_head-slice_bounds-links-start t c =
     let sizes : HeadRoom c.args.rest c.args.rows c.args.a c.args.work.now c.args.next.now c.args.progress =
-        head_room c.requires.7.3 c.requires.0 c.requires.1 c.args.next.now c.requires.3 in
+    head_room c.requires.7.3 c.requires.0 c.requires.1 c.args.next.now c.requires.3 in
     omega arith
 
 -- one variable less, no more rows, and what is left of both arrays
 pub take_head-append_completed-end-requires : goal.take_head-append_completed-end-requires
 take_head-append_completed-end-requires t c =
     let sizes : HeadRoom c.args.rest c.args.rows c.args.a c.args.work.now c.args.next.now c.args.progress =
-        head_room c.requires.7.3 c.requires.0 c.requires.1 c.args.next.now c.requires.3 in
+    head_room c.requires.7.3 c.requires.0 c.requires.1 c.args.next.now c.requires.3 in
     let r = c.repeat_block-at in
     let k = c.take_tails-more in
     let a = c.args in
@@ -240,7 +239,7 @@ take_head-append_completed-end-requires t c =
 pub take_head-close_block-requires : goal.take_head-close_block-requires
 take_head-close_block-requires t c =
     let sizes : HeadRoom c.args.rest c.args.rows c.args.a c.args.work.now c.args.next.now c.args.progress =
-        head_room c.requires.7.3 c.requires.0 c.requires.1 c.args.next.now c.requires.3 in
+    head_room c.requires.7.3 c.requires.0 c.requires.1 c.args.next.now c.requires.3 in
     let l = c.append_completed-end in
     let r = c.repeat_block-at in
     let k = c.take_tails-more in
@@ -267,14 +266,13 @@ pub take_head-returns : goal.take_head-returns
 take_head-returns t c =
     let six : length c.args.prefix.exponents ≡ 6 = search rules in
     let sizes : HeadRoom c.args.rest c.args.rows c.args.a c.args.work.now c.args.next.now c.args.progress =
-        head_room c.requires.7.3 c.requires.0 c.requires.1 c.args.next.now c.requires.3 in
+    head_room c.requires.7.3 c.requires.0 c.requires.1 c.args.next.now c.requires.3 in
     let z = c.close_block in
     let l = c.append_completed-end in
     let r = c.repeat_block-at in
     let k = c.take_tails-more in
     let a = c.args in
-    let q = c.requires in
-    (
+    let q = c.requires in (
       take_put a.rows (length a.next.now - a.rows) a.next.now l.new.next sizes.chained,
       λ T start P S. head_closes S q.0 k.new.bytes k.auto.bytes k.ensures c.grows.ensures
           c.if-not-grows.false six

@@ -1,9 +1,9 @@
 use mathlib.Core.Path.{◌≡◌, sym, ap, ◌∙◌}
-use Prim.Native.Nat.{ℕ, ◌-◌}
+use Prim.Native.Nat.{ℕ}
 use native.Mathlib.Omega.{arith}
 use lib.Count.{ones}
 use lib.ListN.{length, get_or}
-use lib.IntN.{pos, ◌+ℤ◌, ◌-ℤ◌, +ℤ_idl, +ℤ_idr}
+use lib.IntN.{pos, ◌-ℤ◌, +ℤ_idl, +ℤ_idr}
 use Rattle.terms.specs.Monomials.{row_at, degree}
 use Rattle.terms.specs.Rows.{rows}
 use Rattle.terms.proofs.RowsLaws.{length_rows}

@@ -1,5 +1,4 @@
 use native.Mathlib.Omega.{arith}
-use Prim.Native.Nat.{◌-◌}
 use Rattle.terms.proofs.KeyLaws.{front_first, front_next, front_done, front_none}
 use Rattle.terms.proofs.ascending_front.Goals as goal
 

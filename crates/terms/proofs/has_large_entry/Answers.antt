@@ -1,6 +1,5 @@
 use native.Mathlib.Omega.{arith}
 use mathlib.Core.Path.{refl, sym, ◌∙◌}
-use Prim.Native.Nat.{◌-◌}
 use lib.Dec.{ltb}
 use Rattle.terms.proofs.LoopLaws.{stretch_large, stretch_small, any_stops, any_goes_on, any_past}
 use Rattle.terms.proofs.has_large_entry.Goals as goal

@@ -1,6 +1,6 @@
 use native.Mathlib.Omega.{arith}
 use mathlib.Core.Path.{sym, subst}
-use Prim.Native.Nat.{◌+◌, ◌-◌}
+use Prim.Native.Nat.{◌+◌}
 use lib.ListN.{take}
 use Rattle.terms.specs.Monomials.{LargestOf}
 use Rattle.terms.proofs.LoopLaws.{largest_none, largest_larger, largest_stays, largest_whole}
@@ -16,7 +16,7 @@ loop-i-preserved c =
     let l = c.loop-i in (
       omega arith,
       elim c.if-largest-entry.branch [
-        then-largest-entry w ↦ subst (LargestOf (take (l.i + 1) bytes)) (sym w.largest-is)
+        | then-largest-entry w ↦ subst (LargestOf (take (l.i + 1) bytes)) (sym w.largest-is)
             (largest_larger bytes l.i l.largest (omega arith) l.invariant.1 w.if-largest-entry.true)
         | else-largest-entry w ↦ subst (LargestOf (take (l.i + 1) bytes)) (sym w.largest-is)
             (largest_stays bytes l.i l.largest (omega arith) l.invariant.1 w.if-largest-entry.false)

@@ -1,6 +1,6 @@
 use native.Mathlib.Omega.{arith}
 use mathlib.Core.Path.{◌≡◌, refl}
-use Prim.Native.Nat.{suc, ◌-◌}
+use Prim.Native.Nat.{suc}
 use Rattle.checks.proofs.TestLaws.{tests_true, tests_false}
 use Rattle.terms.specs.Monomials.{◌!◌, row_at}
 use Rattle.terms.specs.Rows.{rows}

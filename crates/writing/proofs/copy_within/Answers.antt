@@ -1,5 +1,4 @@
 use native.Mathlib.Omega.{arith}
-use Prim.Native.Nat.{◌-◌}
 use Rattle.writing.proofs.CopyLaws.{copied_none, copied_all, copied_length, copied_within}
 use Rattle.writing.proofs.copy_within.Goals as goal
 

@@ -3,11 +3,10 @@ use mathlib.Core.List.{append-nil}
 use Rattle.blocks.proofs.ByteLaws.{times_large}
 use lib.ListN.{length}
 use Rattle.terms.specs.Rows.{flat, first_rows}
-use Rattle.completion.specs.Slices.{at}
 use Rattle.blocks.proofs.RowLaws.{compact_more}
 use native.Mathlib.Omega.{arith}
 use mathlib.Core.Path.{◌≡◌, refl, sym, ◌∙◌}
-use Prim.Native.Nat.{◌+◌, ◌*◌, ◌-◌, ◌≤◌}
+use Prim.Native.Nat.{◌+◌, ◌*◌, ◌≤◌}
 use Rattle.blocks.proofs.rows.copy_ends.Goals as goal
 
 pub loop-i-init : goal.loop-i-init

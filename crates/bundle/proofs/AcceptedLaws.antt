@@ -16,7 +16,7 @@ use native.Mathlib.Nat.{mul-div_left}
 use native.Mathlib.Decide.{dec_lt}
 use native.Mathlib.Omega.{arith}
 use lib.Dec.{ltb}
-use lib.ListN.{length, take, drop, take-append-drop, drop_of_length-le, length-drop}
+use lib.ListN.{length, drop, take-append-drop, drop_of_length-le, length-drop}
 use lib.Seq.{drop-drop, length-take-le}
 use Rattle.checks.specs.Tests.{any, SomeBelow}
 use Rattle.checks.proofs.TestLaws.{stable, tests_same, tests_as, tests_le}

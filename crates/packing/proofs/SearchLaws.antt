@@ -4,9 +4,9 @@
 --   looked-none, looked-more   before the first table, and one more
 --   looked-found, looked-all   a table is found, and none is
 --   part-table, part-within, part-accepted   the bytes of the next table: its rows, that they are there, and that they pass the checks 1 to 4
-use mathlib.Core.Path.{◌≡◌, refl, sym, ap, ◌∙◌, subst}
+use mathlib.Core.Path.{◌≡◌, refl, sym, ap, ◌∙◌}
 use mathlib.Core.Bool.{Bool, true, false, ◌||◌}
-use mathlib.Core.List.{List, ◌∷◌, Memᴰ}
+use mathlib.Core.List.{List, ◌∷◌}
 use Prim.Native.Nat.{ℕ, ◌+◌, ◌*◌, ◌-◌, ◌≤◌, ◌<◌}
 use native.Mathlib.Nat.{add-mul}
 use native.Mathlib.Numerals.{add-one}

@@ -1,6 +1,5 @@
 use native.Mathlib.Omega.{arith}
 use mathlib.Core.Path.{sym, ◌∙◌}
-use Prim.Native.Nat.{◌-◌}
 use native.Mathlib.Numerals.{add-one}
 use Rattle.checks.proofs.TestLaws.{tests_true, tests_false, true_tests, false_tests}
 use Rattle.terms.specs.Monomials.{Distinct}

@@ -1,7 +1,6 @@
 use Rattle.bundle.proofs.CheckLaws.{framed, body_bound, passed_first, passed_next, passed_refuses, passed_remain, passed_all}
 use native.Mathlib.Omega.{arith}
 use mathlib.Core.Path.{sym, ◌∙◌}
-use Prim.Native.Nat.{◌-◌}
 use Rattle.bundle.proofs.tables_refusal.Goals as goal
 
 pub overflow_mul-place : goal.overflow_mul-place

@@ -1,6 +1,6 @@
 use native.Mathlib.Omega.{arith}
 use mathlib.Core.Path.{◌≡◌, refl, ap, ◌∙◌}
-use Prim.Native.Nat.{ℕ, ◌-◌, ◌<◌}
+use Prim.Native.Nat.{ℕ, ◌<◌}
 use lib.ListN.{length, get_or}
 use Rattle.terms.specs.Monomials.{Monomial, row_at}
 use Rattle.terms.specs.Rows.{rows}

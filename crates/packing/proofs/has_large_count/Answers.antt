@@ -1,6 +1,5 @@
 use native.Mathlib.Omega.{arith}
 use mathlib.Core.Path.{refl, sym, ◌∙◌}
-use Prim.Native.Nat.{◌-◌}
 use lib.Dec.{ltb}
 use Rattle.terms.proofs.LoopLaws.{any_past}
 use Rattle.packing.proofs.LoopLaws.{large_here, large_later}

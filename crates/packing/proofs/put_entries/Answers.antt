@@ -1,6 +1,5 @@
 use native.Mathlib.Omega.{arith}
 use mathlib.Core.Path.{refl, ◌∙◌}
-use Prim.Native.Nat.{◌-◌}
 use Rattle.packing.proofs.LoopLaws.{body_fits, entered_none, entered_more, entered_all}
 use Rattle.packing.proofs.put_entries.Goals as goal
 

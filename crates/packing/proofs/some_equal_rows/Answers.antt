@@ -1,5 +1,5 @@
 use native.Mathlib.Omega.{arith}
-use Prim.Native.Nat.{◌+◌, ◌*◌, ◌-◌, ◌≤◌}
+use Prim.Native.Nat.{◌+◌, ◌*◌, ◌≤◌}
 use lib.ListN.{length}
 use Rattle.packing.proofs.CheckLaws.{Shaped, shaped, shaped_size}
 use Rattle.packing.proofs.LoopLaws.{body_fits}

@@ -1,5 +1,4 @@
 use native.Mathlib.Omega.{arith}
-use Prim.Native.Nat.{◌-◌}
 use Rattle.packing.proofs.LoopLaws.{summed_none, summed_more, summed_all}
 use Rattle.packing.proofs.total_rows.Goals as goal
 

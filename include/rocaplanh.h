@@ -1,6 +1,6 @@
 /* Rocaplanh: Janet division of monomials, for C programs.
  *
- * Link with the archive libinterface.a (`rt staticlib interface` writes it to target/staticlib).
+ * Link with the archive libinterface.a (`tools/build archive` writes it to target/staticlib).
  *
  * A monomial in n variables is n bytes, one exponent each, first variable first. A table is rows of n bytes end to end:
  * n is 1 to 6, a table has 0 to 4096 rows, no two of them equal, and an entry is 0 to 50. A query is one monomial whose

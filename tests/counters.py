@@ -1,8 +1,8 @@
 """Row numbers, variables and degrees are counters of their own: the compiler refuses one where another is wanted.
 
-Each edit of tests/counters is applied to a copy of its crate, and the compiler must refuse the copy for its types. (A must-fail
-edit has to reach the prover, and these do not: so they are tried here.) The crates that a copy rests on are proved first, where
-they have changed since they were last proved.
+Each edit of tests/counters is applied to its crate in a copy of the repository, and the compiler must refuse it for its types. (A
+must-fail edit has to reach the prover, and these do not: so they are tried here.) In the copy the crates below are proved first, from
+what was kept of them.
 """
 import glob
 import os
@@ -21,24 +21,16 @@ def parts(edit):
         return [re.search(rf'^{key}: (.*)$', text, re.M).group(1) for text in [file.read()] for key in ('crate', 'file', 'old', 'new')]
 
 
-def rests_on(crate):
-    """The crates that crates.txt names for a crate."""
-    with open(os.path.join(ROOT, 'crates.txt'), encoding='utf-8') as file:
-        return re.search(rf'^{crate}:(.*)$', file.read(), re.M).group(1).split()
-
-
-def libraries(crate):
-    """The words that lead the compiler to the proved libraries below a crate."""
-    built = os.path.join(ROOT, 'target', 'rlib')
-    return [word for name in rests_on(crate) for word in ('--extern', f'{name}={built}/{name}.rlib')] + ['-L', f'dependency={built}']
+def copy_of_crates(folder):
+    """The crates without their edits and what was made of them, and their list."""
+    shutil.copytree(os.path.join(ROOT, 'crates'), os.path.join(folder, 'crates'), ignore=shutil.ignore_patterns('must-fail', 'out'))
+    shutil.copy2(os.path.join(ROOT, 'crates.txt'), folder)
 
 
 def refused_for_types(edit, folder):
-    """Applies the edit to a copy, and tells whether the compiler refuses it for a type."""
+    """Applies the edit in the copy, tells whether the compiler refuses it for a type, and takes it back."""
     crate, path, old, new = parts(edit)
-    copy = os.path.join(folder, crate)
-    shutil.copytree(os.path.join(ROOT, 'crates', crate), copy)
-    source = os.path.join(copy, path)
+    source = os.path.join(folder, 'crates', crate, path)
     with open(source, encoding='utf-8') as file:
         text = file.read()
     if text.count(old) != 1:
@@ -46,7 +38,9 @@ def refused_for_types(edit, folder):
         return False
     with open(source, 'w', encoding='utf-8') as file:
         file.write(text.replace(old, new))
-    run = subprocess.run(['rt', 'check', copy, *libraries(crate)], capture_output=True, text=True)
+    run = subprocess.run(['rt', 'check'], cwd=os.path.join(folder, 'crates', crate), capture_output=True, text=True)
+    with open(source, 'w', encoding='utf-8') as file:
+        file.write(text)
     said = run.stdout + run.stderr
     refused = run.returncode != 0 and 'error[mismatched-types]' in said
     first = next((line for line in said.splitlines() if 'error' in line), 'no error')
@@ -56,12 +50,9 @@ def refused_for_types(edit, folder):
 
 def main():
     edits = sorted(glob.glob(os.path.join(ROOT, 'tests', 'counters', '*.edit')))
-    below = sorted({name for edit in edits for name in rests_on(parts(edit)[0])})
-    subprocess.run(['rt', 'check', *below], cwd=ROOT, stdout=subprocess.DEVNULL, check=True)
-    refused = 0
-    for edit in edits:
-        with tempfile.TemporaryDirectory() as folder:
-            refused += refused_for_types(edit, folder)
+    with tempfile.TemporaryDirectory() as folder:
+        copy_of_crates(folder)
+        refused = sum(refused_for_types(edit, folder) for edit in edits)
     print(f'{refused} passed, {len(edits) - refused} failed')
     sys.exit(refused != len(edits) or not edits)
 

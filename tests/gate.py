@@ -14,6 +14,8 @@ import pages
 
 ROOT = os.path.dirname(os.path.dirname(os.path.abspath(__file__)))
 CLOSING = re.compile(r'(\d+) passed, 0 failed')
+BAD_EDITS = re.compile(r'^rt: ok\b.*, (\d+) bad\b')
+LOG = os.path.join(ROOT, 'target', 'rt-ci.log')
 
 
 class Fault(Exception):
@@ -51,7 +53,7 @@ def functions(path):
 def listed_crates():
     """Each crate under crates/ is listed, and each listed crate is there."""
     lines = [line.split('#')[0].strip() for line in read('crates.txt').splitlines()]
-    listed = {line.split(':')[0].strip() for line in lines if line}
+    listed = {line.split(':')[0].split()[0] for line in lines if line}
     present = {name for name in os.listdir(os.path.join(ROOT, 'crates')) if os.path.isdir(os.path.join(ROOT, 'crates', name))}
     if listed != present:
         raise Fault(f'crates.txt and crates/ differ: {sorted(listed ^ present)}')
@@ -91,39 +93,42 @@ def layers():
         raise Fault(fault)
 
 
-def layout():
-    if subprocess.run(['rt', 'fmt', '--check'], cwd=ROOT, capture_output=True).returncode:
-        raise Fault('rt fmt --check: some file is not in the layout')
-
-
 def true_pages():
     """What the pages name is there."""
     for fault in pages.faults(ROOT):
         raise Fault(fault)
 
 
-def closing_number(command, environment=None, folder=ROOT):
-    """Runs a command that ends in 'N passed, 0 failed', passes its lines on, and gives N."""
-    run = subprocess.Popen(command, cwd=folder, env=environment, stdout=subprocess.PIPE, stderr=subprocess.STDOUT, text=True)
-    last = ''
+def closing_number(command, log=None):
+    """Runs a command that ends in 'N passed, 0 failed', passes its lines on, and gives N. An edit that could not be tried is a fault.
+    What it prints also goes into the log, if there is one."""
+    run = subprocess.Popen(command, cwd=ROOT, stdout=subprocess.PIPE, stderr=subprocess.STDOUT, text=True)
+    last, lines = '', []
     for line in run.stdout:
         last = line.rstrip('\n') or last
+        lines.append(line)
         if not CLOSING.fullmatch(last):
             print(line, end='', flush=True)
+    if log:
+        os.makedirs(os.path.dirname(log), exist_ok=True)
+        with open(log, 'w', encoding='utf-8') as file:
+            file.writelines(lines)
     if run.wait():
         raise Fault(f'{" ".join(command)} ended with status {run.returncode}')
+    for bad in filter(None, map(BAD_EDITS.match, lines)):
+        raise Fault(f'{" ".join(command)}: {bad.group(1)} must-fail edits could not be tried')
     closing = CLOSING.fullmatch(last)
     if not closing or int(closing.group(1)) == 0:
         raise Fault(f'{" ".join(command)} closed with {last!r}')
     return int(closing.group(1))
 
 
-STEPS = (listed_crates, contracts, unconditional, layers, layout, true_pages)
+STEPS = (listed_crates, contracts, unconditional, layers, true_pages)
 PARTS = (
-    ('rt ci', 'proves every crate from nothing, tries the edits that must fail, runs the programs', ['rt', 'ci']),
-    ('edits', 'holds each edit that must fail to the place at which its file says so', [sys.executable, 'tests/edits.py']),
-    ('counters', 'tries edits that exchange one counter for another', [sys.executable, 'tests/counters.py']),
-    ('comparisons', 'builds and compares with the second program, runs the examples', ['bash', 'tests/comparisons']),
+    ('rt ci', 'proves every crate, tries the edits that must fail, runs the programs', ['rt', 'ci'], LOG),
+    ('edits', 'holds each edit that must fail to the place at which its file says so', [sys.executable, 'tests/edits.py', LOG], None),
+    ('counters', 'tries edits that exchange one counter for another', [sys.executable, 'tests/counters.py'], None),
+    ('comparisons', 'builds and compares with the second program, runs the examples', ['bash', 'tests/comparisons'], None),
 )
 
 
@@ -133,10 +138,10 @@ def main():
         for step in STEPS:
             step()
             print(f'gate: {step.__name__}: holds', flush=True)
-        for name, what, command in PARTS:
+        for name, what, command, log in PARTS:
             print(f'gate: {name} begins: {what}', flush=True)
             begun = time.monotonic()
-            number = closing_number(command)
+            number = closing_number(command, log)
             print(f'gate: {name}: {number} passed ({time.monotonic() - begun:.0f} s)', flush=True)
             passed += number
     except (Fault, OSError) as fault:

@@ -1,14 +1,14 @@
 """Holds crates to what tests/layers.txt lets them import of those below them.
 
 A line there is CRATE ..: OF ..: MODULE .. Each CRATE may import of each OF these modules, with all below them, and nothing
-else of it. The word `functions` stands for the functions of OF: to call them, and to name their contracts. A module is
-meant by both forms of its name, Rattle·OF.specs.NAME and Rattle·OF·specs.specs.NAME.
+else of it. The word `functions` stands for the functions of OF: to call them, and to name their contracts. A module has the name
+Rattle.OF.specs.NAME or Rattle.OF.proofs.NAME.
 """
 import os
 import re
 
 LIST = 'tests/layers.txt'
-CONTRACT = re.compile(r'proofs(\.[a-z_+][\w+]*)+(\.(Key|Symbol|Statement|Brackets|Met|Kinds|Reads))?')
+CONTRACT = re.compile(r'proofs(\.[a-z_+][\w+]*)+(\.(Key|Symbol|Statement|Met|Kinds|Reads))?')
 
 
 def read(path):
@@ -31,7 +31,7 @@ def files(root, crate):
 def imported(path, below):
     """The modules of a crate below that a file names; `functions` where its code names something of it."""
     text = read(path)
-    names = re.findall(rf'Rattle·{below}(?![\w])(?:·\w+)?((?:\.[\w+-]+)*)', text)
+    names = re.findall(rf'Rattle\.{below}(?![\w])((?:\.[\w+-]+)*)', text)
     code = path.endswith('.rt') and re.search(rf'(?<![\w:]){below}::', re.sub(r'//[^\n]*', '', text))
     return [name.lstrip('.') or 'all' for name in names] + ['functions'] * bool(code)
 

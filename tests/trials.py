@@ -21,7 +21,7 @@ def copy(folder):
         source = os.path.join(ROOT, name)
         (shutil.copytree if os.path.isdir(source) else shutil.copy2)(source, os.path.join(folder, name))
     for crate in CRATES:
-        shutil.copytree(os.path.join(ROOT, 'crates', crate), os.path.join(folder, 'crates', crate), ignore=shutil.ignore_patterns('must-fail'))
+        shutil.copytree(os.path.join(ROOT, 'crates', crate), os.path.join(folder, 'crates', crate), ignore=shutil.ignore_patterns('must-fail', 'out'))
     write(folder, EDIT, read(ROOT, EDIT))
     write(folder, 'crates.txt', ''.join(line for line in read(ROOT, 'crates.txt').splitlines(True) if line.split(':')[0] in CRATES))
     for edit in os.listdir(os.path.join(folder, 'tests', 'counters')):
@@ -55,13 +55,13 @@ FAULTS = {
     'a wrong expected output': lambda folder: edit(folder, 'crates/refusals/stdout', '1\n', '2\n'),
     'a surviving must-fail edit': lambda folder: write(
         folder, 'crates/terms/must-fail/comment.edit', 'file: src/lib.rt\nold: // A total degree.\nnew: // A degree.\n'),
-    'an edit that is refused elsewhere': lambda folder: edit(folder, EDIT, 'refused: law first-check', 'refused: law refusal-holds'),
-    'an edit that names no place': lambda folder: edit(folder, EDIT, 'refused: law first-check', ''),
+    'an edit that is refused elsewhere': lambda folder: edit(folder, EDIT, 'refused: law first_check', 'refused: law refusal_holds'),
+    'an edit that names no place': lambda folder: edit(folder, EDIT, 'refused: law first_check', ''),
     'a page that names another place': lambda folder: write(
-        folder, 'docs/GUIDE.md', '| an edit | `checks/last_check_that_holds` | the law `refusal-holds` |\n'),
+        folder, 'docs/GUIDE.md', '| an edit | `checks/last_check_that_holds` | the law `refusal_holds` |\n'),
     'a public function without ensures': lambda folder: edit(folder, SOURCE, '// A total degree.', 'pub fn one() -> u8 {\n    1\n}\n\n// A total degree.'),
     'a requires on a public operation': lambda folder: edit(
-        folder, SOURCE, '    ensures { λ r. ⌜ r ≡ refusal (tableChecks', '    requires { ⌜ n ≤ 6 ⌝ }\n    ensures { λ r. ⌜ r ≡ refusal (tableChecks'),
+        folder, SOURCE, '    ensures { result ≡ refusal (table_checks', '    requires { n ≤ 6 }\n    ensures { result ≡ refusal (table_checks'),
     'a public operation that is not there': lambda folder: edit(folder, 'docs/PROMISES.md', 'lib.rt', 'other.rt'),
     'a page that names what is not there': lambda folder: write(folder, 'docs/GUIDE.md', 'Read `terms/specs/Nothing`.\n'),
     'a page that names a line of another thing': lambda folder: write(folder, 'docs/GUIDE.md', f'Read `table_refusal` `{SOURCE}:1`.\n'),

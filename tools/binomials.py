@@ -21,7 +21,7 @@ with open('crates/binomial/src/table.rt', 'w', encoding='utf-8') as out:
 with open('crates/binomial/proofs/Numbers.antt', 'w', encoding='utf-8') as out:
     out.write('-- The binomials of rule 10 as a list: entry top * 7 + bottom, tops 0 to 306, bottoms 0 to 6. Written by tools/binomials.py.\n')
     out.write('--\n--   numbers          the entries of the constant table, in order\n')
-    out.write('use mathlib.Core.List.{List, [], _∷_}\nuse Prim.Native.Nat.{ℕ}\n\n')
+    out.write('use mathlib.Core.List.{List, [], ◌∷◌}\nuse Prim.Native.Nat.{ℕ}\n\n')
     out.write('unfoldable pub numbers : List ℕ\nnumbers =\n')
     out.write(''.join('    %s\n' % ' '.join('%d ∷' % entry for entry in row) for row in rows))
     out.write('    []\n')

@@ -11,27 +11,28 @@ import subprocess
 
 ROOT = os.path.dirname(os.path.dirname(os.path.abspath(__file__)))
 COPY = os.path.join(ROOT, 'target', 'inner')
-LISTED = 'inner: binomial checks counts division finding summing terms\n'
+LISTED = 'inner staticlib: binomial checks counts division finding summing terms\n'
 SOURCE = '''\
 // Inner functions as they are, without the checks of the operations that call them: to be timed.
+#![tactic(auto)]
+
+ghost use Rattle.std.specs.Prelude.{◌≡◌, ◌≤◌, length};
+ghost use Rattle.terms.specs.Rows.{rows};
+ghost use Rattle.division.specs.Checks.{Ready};
+ghost use Rattle.summing.specs.Sums.{Checked, Marked};
+
 use division::Found;
 use finding::descend_table;
 use summing::count_sum;
 use terms::Degree;
-ghost use mathlib.Core.Path.{_≡_};
-ghost use Prim.Native.Nat.{_≤_};
-ghost use lib.ListN.{length};
-ghost use Rattle·terms.specs.Rows.{rows};
-ghost use Rattle·division.specs.Checks.{Ready};
-ghost use Rattle·summing.specs.Sums.{Checked, Marked};
 
 // What stands for 'no row'.
 pub const NO_ROW: usize = 65535;
 
 // The descent for a query: the row, and the number of exponents stepped on.
-#[no_mangle]
+#[unsafe(no_mangle)]
 pub extern "C" fn inner_descend(n: usize, table: &[u8], query: &[u8], steps: &mut usize) -> usize
-    requires { ⌜ Ready n (rows n (now table)) × (length (now query) ≡ n) ⌝ }
+    requires { Ready n (rows n table.now) × (length query.now ≡ n) }
 {
     let descent = descend_table(n, table, query);
     *steps = descent.steps;
@@ -43,9 +44,9 @@ pub extern "C" fn inner_descend(n: usize, table: &[u8], query: &[u8], steps: &mu
 }
 
 // The count at a degree of a table that was checked and marked.
-#[no_mangle]
+#[unsafe(no_mangle)]
 pub extern "C" fn inner_count_sum(n: usize, table: &[u8], marks: &[u8], degree: usize) -> u64
-    requires { ⌜ Checked n (now table) × Marked n (now table) (now marks) × (degree ≤ 300) ⌝ }
+    requires { Checked n table.now × Marked n table.now marks.now × (degree ≤ 300) }
 {
     count_sum(n, table, marks, Degree(degree))
 }
@@ -55,10 +56,7 @@ pub extern "C" fn inner_count_sum(n: usize, table: &[u8], marks: &[u8], degree: 
 def make_copy():
     """The crates with the crate `inner` beside them, and what was proved of them before."""
     shutil.rmtree(COPY, ignore_errors=True)
-    shutil.copytree(os.path.join(ROOT, 'crates'), os.path.join(COPY, 'crates'), ignore=shutil.ignore_patterns('must-fail'))
-    for part in ('rlib', 'stamp'):
-        if os.path.isdir(os.path.join(ROOT, 'target', part)):
-            shutil.copytree(os.path.join(ROOT, 'target', part), os.path.join(COPY, 'target', part))
+    shutil.copytree(os.path.join(ROOT, 'crates'), os.path.join(COPY, 'crates'), ignore=shutil.ignore_patterns('must-fail', 'out'))
     with open(os.path.join(ROOT, 'crates.txt'), encoding='utf-8') as file:
         listed = file.read()
     with open(os.path.join(COPY, 'crates.txt'), 'w', encoding='utf-8') as file:
@@ -70,9 +68,12 @@ def make_copy():
 
 def main():
     make_copy()
-    proved = subprocess.run(['rt', 'staticlib', 'inner'], cwd=COPY, capture_output=True, text=True)
+    crate, folder = os.path.join(COPY, 'crates', 'inner'), os.path.join(COPY, 'target', 'staticlib')
+    proved = subprocess.run(['rt', 'lib'], cwd=crate, capture_output=True, text=True)
     if proved.returncode:
         raise SystemExit(proved.stdout + proved.stderr)
+    os.makedirs(folder)
+    shutil.copy2(os.path.join(crate, 'out', 'libinner.a'), folder)
     words = ['--release', '--offline', '--quiet', '--target-dir', os.path.join(COPY, 'rust')]
     subprocess.run(['cargo', 'run', '--manifest-path', os.path.join(ROOT, 'rust', 'inner', 'Cargo.toml'), *words], check=True)
 

@@ -25,7 +25,7 @@ def kind(parts):
         return None
     if parts[0] == 'specs':
         return 'definitions'
-    return 'proofs' if parts[-1] == 'Proof.antt' else 'laws'
+    return 'proofs' if parts[-1] in ('Invariants.antt', 'Answers.antt') else 'laws'
 
 
 def sizes(crate):

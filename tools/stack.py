@@ -1,6 +1,6 @@
 """Finds the least stack with which janet writes the same listing as with the usual one, on the largest bundles.
 
-python3 tools/stack.py, at the root of the repository, after `rt check janet`. For each bundle the number of KiB is found by
+python3 tools/stack.py, at the root of the repository, after `tools/build janet`. For each bundle the number of KiB is found by
 bisection under a limit on the stack (as `ulimit -s` sets it). Linux moves the stack's start by some KiB at random, so a
 size counts only if many runs with it are right. The environment and the arguments stand on the stack too, and are empty.
 """
@@ -89,7 +89,7 @@ def least(bundle, expected):
 
 def main():
     if not os.path.exists(JANET):
-        sys.exit('stack: target/bin/janet is missing: run rt check janet')
+        sys.exit('stack: target/bin/janet is missing: run tools/build janet')
     print('| n | tables | bytes | table 0 | least stack |\n|---|---|---|---|---|')
     most = 0
     for bundle in bundles():

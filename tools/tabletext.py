@@ -246,7 +246,7 @@ def shared_object(root):
     archive = os.path.join(root, 'target', 'staticlib', 'libinterface.a')
     shared = os.path.join(root, 'target', 'librocaplanh.so')
     if not os.path.isfile(archive):
-        raise Fault(f'{archive} is missing: run rt staticlib interface', 2)
+        raise Fault(f'{archive} is missing: run tools/build archive', 2)
     if not os.path.isfile(shared) or os.path.getmtime(shared) < os.path.getmtime(archive):
         make_shared(archive, shared)
     return shared

@@ -190,7 +190,7 @@ def check_library():
             shutil.copytree(os.path.join(ROOT, folder), os.path.join(root, folder))
         archive = os.path.join(root, "target", "staticlib", "libinterface.a")
         shared = os.path.join(root, "target", "librocaplanh.so")
-        message = f"pack: {archive} is missing: run rt staticlib interface\n"
+        message = f"pack: {archive} is missing: run tools/build archive\n"
         expect(run("pack", b"0\n", root=root, env=environment), 2, b"", message)
         os.makedirs(os.path.dirname(archive))
         shutil.copy(os.path.join(os.environ["ROCAPLANH_ARCHIVE"], "libinterface.a"), archive)

@@ -12,7 +12,7 @@ fn main() {
     println!("cargo:rerun-if-changed={}", archive.display());
     if !archive.is_file() {
         eprintln!(
-            "{} is missing: run `rt staticlib interface`, or set ROCAPLANH_ARCHIVE to its folder",
+            "{} is missing: run `tools/build archive`, or set ROCAPLANH_ARCHIVE to its folder",
             archive.display()
         );
         std::process::exit(1);

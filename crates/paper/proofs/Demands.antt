@@ -19,9 +19,9 @@ use Rattle.terms.specs.TableChecks.{table_checks, TableAccepted}
 use Rattle.distinct.specs.EqualRows.{distinct_checks}
 use Rattle.distinct.proofs.CheckLaws.{distinct_listed}
 use Rattle.terms.proofs.RowsLaws.{rows_size, rows_flat}
-use Rattle.checks.proofs.RefusalLaws.{accepted, accepts_nil, accepts_cons, accepts_left, accepts_append, accepts_refusal, refusal_refuses, refuses_refusal}
+use Rattle.checks.proofs.RefusalLaws.{accepted, accepts_nil, accepts_cons, accepts_append, accepts_refusal, refusal_refuses, refuses_refusal}
 use Rattle.checks.proofs.RefusalLaws.{answered_accepted, answered_refused}
-use Rattle.terms.proofs.TableLaws.{table_accepted, accepts_table, rows_small}
+use Rattle.terms.proofs.TableLaws.{accepts_table, rows_small}
 use Rattle.division.specs.Janet.{Multiplicative, Complete, marks_of, table_marks}
 use Rattle.finding.specs.Operation.{FindPromise, find_checks, find_number, find_row, find_steps}
 use Rattle.division.specs.Checks.{length_check, order_check}

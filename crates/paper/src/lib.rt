@@ -2,4 +2,3 @@
 // specs/Outputs.antt what goes out, and specs/OneResult.antt that each promise allows one result; the proofs have the same names. There is no
 // code here.
 #![tactic(auto)]
-

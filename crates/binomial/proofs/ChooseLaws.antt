@@ -1,12 +1,12 @@
 -- Laws of binomials.
 --
---   choose-over, choose-self   a bottom above the top gives 0, and the top itself 1
+--   choose_over, choose_self   a bottom above the top gives 0, and the top itself 1
 --   choose_one             a bottom of 1 gives the top
---   choose-up, choose-monotone   a larger top gives no less
---   hockey-stick           the sum of C(j + m, m) for j up to t is C(t + m + 1, m + 1)
---   choose-absorb          (k + 1) C(n + 1, k + 1) is (n + 1) C(n, k)
---   choose-largest         C(306, 6) is 1,085,371,516,236
---   choose-within          no C(t, m) with m up to 6 and t up to 300 + m exceeds it
+--   choose_up, choose_monotone   a larger top gives no less
+--   hockey_stick           the sum of C(j + m, m) for j up to t is C(t + m + 1, m + 1)
+--   choose_absorb          (k + 1) C(n + 1, k + 1) is (n + 1) C(n, k)
+--   choose_largest         C(306, 6) is 1,085,371,516,236
+--   choose_within          no C(t, m) with m up to 6 and t up to 300 + m exceeds it
 use mathlib.Core.Path.{◌≡◌, refl, sym, ap, ◌∙◌}
 use Prim.Native.Nat.{ℕ, zero, suc, ◌+◌, ◌*◌, ◌-◌, ◌≤◌, ◌<◌}
 use native.Mathlib.Nat.{not-suc-le-zero, le_of_suc-le-suc, suc-mul, mul-add}

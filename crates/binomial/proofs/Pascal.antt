@@ -1,6 +1,6 @@
 -- Pascal's rule, tested once over all entries of the table, and carried to each entry.
 --
---   right_at k p x y  what the rule says of the entry y at the place 7 + k: 1 at a bottom of 0, else the sum of the entry x
+--   right_at k p x y   what the rule says of the entry y at the place 7 + k: 1 at a bottom of 0, else the sum of the entry x
 --                    above it and the entry p before that
 --   walk             the test over the entries and the entries seven places on, side by side: each entry is looked at once
 --   tested           the test, computed over the whole table

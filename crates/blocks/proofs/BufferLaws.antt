@@ -1,11 +1,11 @@
 -- What ties the recursion on lists to rows in a buffer: rows behind a common front, and room.
 --
 --   flat_append            the bytes of two tables, one behind the other
---   length-behind, -repeated, -after   how many rows there are
---   after-size             the rows behind a front of k exponents have k more
---   after-append, -behind, -set, -drop   a block in a buffer: appended, under the next front, copied with one column set, without its first columns
---   fit-within, fit-beyond, beyond-fit, fit-part   room, and that running out of it is final
---   walk-fit               a walk that has run out of room has the answer of the whole
+--   length_behind, -repeated, -after   how many rows there are
+--   after_size             the rows behind a front of k exponents have k more
+--   after_append, -behind, -set, -drop   a block in a buffer: appended, under the next front, copied with one column set, without its first columns
+--   fit_within, fit_beyond, beyond_fit, fit_part   room, and that running out of it is final
+--   walk_fit               a walk that has run out of room has the answer of the whole
 use mathlib.Core.Path.{◌≡◌, refl, sym, ap, ◌∙◌}
 use mathlib.Core.List.Memᴰ
 use mathlib.Core.List.{List, [], ◌∷◌, ◌++◌, map, append_assoc}

@@ -1,11 +1,11 @@
 -- Bytes in arrays: what the loops of the code read and write, one turn each.
 --
---   times-pred, times-less, times-large, rows_before, rows-fewer   products of a number of rows with their size
---   shorter-front          what lies before a place up to which two arrays are equal
---   pairs_start, pairs-stop, pairs-on   the test of divisibility, exponent by exponent from the last
---   part-cons              rows from a place on: the first and the others
---   inside-stop, -on, -end, grows-stop, -on, -end   the tests over the rows that are left
---   head_byte, heads-start, heads-more, heads-same   the head of a row is its first byte; the largest head, row by row from the last
+--   times_pred, times_less, times_large, rows_before, rows_fewer   products of a number of rows with their size
+--   shorter_front          what lies before a place up to which two arrays are equal
+--   pairs_start, pairs_stop, pairs_on   the test of divisibility, exponent by exponent from the last
+--   part_cons              rows from a place on: the first and the others
+--   inside_stop, -on, -end, grows_stop, -on, -end   the tests over the rows that are left
+--   head_byte, heads_start, heads_more, heads_same   the head of a row is its first byte; the largest head, row by row from the last
 --   least_start, least_more   the least byte so far
 use mathlib.Core.Path.{◌≡◌, refl, sym, ap, ◌∙◌, subst}
 use mathlib.Core.Bool.{Bool, true, false}

@@ -1,14 +1,14 @@
 -- Rows that the code writes: a column that is set, a block that is copied, tails that are collected.
 --
---   first_rows_add, part-add, part-snoc   rows in two parts, and the last row
---   front-rows, same_rows  the rows at the front are those of the bytes at the front
---   read-back              rows that were written are read again
---   pasted-rows            the rows of a copy
---   columned, column-more  the rows with exponent k set in the first of them, and in one more
---   same-piece, same-part, front_of   what lies before a place up to which two arrays are equal
---   compact-more           the last exponents of one more row are written
---   again-rows, repeat-more, repeat-beyond   a block once more, once more at each turn, and without room
---   copies-repeated        copies of a block behind a front are its repetitions
+--   first_rows_add, part_add, part_snoc  rows in two parts, and the last row
+--   front_rows, same_rows  the rows at the front are those of the bytes at the front
+--   read_back              rows that were written are read again
+--   pasted_rows            the rows of a copy
+--   columned, column_more  the rows with exponent k set in the first of them, and in one more
+--   same_piece, same_part, front_of   what lies before a place up to which two arrays are equal
+--   compact_more           the last exponents of one more row are written
+--   again_rows, repeat_more, repeat_beyond   a block once more, once more at each turn, and without room
+--   copies_repeated        copies of a block behind a front are its repetitions
 use mathlib.Core.Path.{◌≡◌, refl, sym, ap, ◌∙◌}
 use mathlib.Core.List.Memᴰ
 use mathlib.Core.List.{List, [], ◌∷◌, ◌++◌, map, tail, map-append, append_assoc, append-nil}

@@ -3,7 +3,7 @@
 --
 --   part n k from bytes  k rows of n bytes each, from byte `from` on
 --   copies k b j S       the rows of S with exponent b at place k, then b + 1, .. : j times
---   next_row a i G        where the next row with head a stands
+--   next_row a i G       where the next row with head a stands
 --   Linked, Firsts       rows chained by head
 --   after p H            the rows of H with the exponents p before each: what is appended behind the first exponents p of a row
 --   fit room e           the end e of what is written, or room + 1 where it is beyond the room

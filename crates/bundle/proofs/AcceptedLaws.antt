@@ -2,11 +2,11 @@
 --
 --   Laid, laid               what is known of a bundle whose layout passed: frame, each table's rows and place, its end
 --   from_place               what stands from body j on is body j and what stands from the next on
---   entries-here             4 over all bodies is one pass over what stands behind the header
---   Accepted, accepted-bundle, bundle-accepted   what is known of an accepted bundle, and that this is enough
---   length-body, length-table, flat-table   a table of it: the length of its body, its number of rows, its bytes again
---   body-accepted            a table of a bundle whose layout and entries passed passes the checks 1 to 4
---   table-passes-checks      a table of an accepted bundle passes the checks 1 to 4 and 12
+--   entries_here             4 over all bodies is one pass over what stands behind the header
+--   Accepted, accepted_bundle, bundle_accepted   what is known of an accepted bundle, and that this is enough
+--   length_body, length_table, flat_table   a table of it: the length of its body, its number of rows, its bytes again
+--   body_accepted            a table of a bundle whose layout and entries passed passes the checks 1 to 4
+--   table_passes_checks      a table of an accepted bundle passes the checks 1 to 4 and 12
 use mathlib.Core.Path.{◌≡◌, refl, sym, ap, ◌∙◌, subst}
 use mathlib.Core.List.Memᴰ
 use mathlib.Core.List.{List, ◌++◌, Memᴰ}

@@ -1,11 +1,11 @@
 -- An accepted bundle is the bundle of its n and its tables, byte for byte.
 --
---   low-number, high-number   the two bytes of a 16-bit number that was read
+--   low_number, high_number   the two bytes of a 16-bit number that was read
 --   length_tables_from, tables_from_at   how many tables there are, and table j of them
---   read-entries              the header is the entries of the tables
---   read-bodies               what stands behind the header is their bodies
---   bundle-again              the bundle of what was read is the bundle that was read
---   same-bundle               two accepted bundles with the same n and the same tables are the same bytes
+--   read_entries              the header is the entries of the tables
+--   read_bodies               what stands behind the header is their bodies
+--   bundle_again              the bundle of what was read is the bundle that was read
+--   same_bundle               two accepted bundles with the same n and the same tables are the same bytes
 use mathlib.Core.Path.{◌≡◌, refl, sym, ap, ◌∙◌}
 use mathlib.Core.List.{List, [], ◌∷◌, ◌++◌}
 use Prim.Native.Nat.{ℕ, zero, suc, ◌+◌, ◌*◌, ◌≤◌, ◌<◌}

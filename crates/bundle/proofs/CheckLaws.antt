@@ -1,10 +1,10 @@
 -- Laws of the bundle's checks: what the code asks, step by step, is the list of checks in its order.
 --
 --   Framed, framed           what is known of a bundle that passed 9 and 1
---   frame-nine, frame-one, frame-passes   which check of the frame refuses
---   table-three, table-ten, table-eleven, table-passes   which check of one table refuses
---   TableLaid, table-laid    what is known of a table that passed 3, 10 and 11
---   refuses-here, goes_on, past-last   the checks from table j on
+--   frame_nine, frame_one, frame_passes   which check of the frame refuses
+--   table_three, table_ten, table_eleven, table_passes   which check of one table refuses
+--   TableLaid, table_laid    what is known of a table that passed 3, 10 and 11
+--   refuses_here, goes_on_lem, past_last   the checks from table j on
 --   Passed, passed-..        the loop over the tables
 use mathlib.Core.Path.{◌≡◌, sym, ap, ◌∙◌, subst}
 use mathlib.Core.List.{List, [], ◌++◌, append_assoc}

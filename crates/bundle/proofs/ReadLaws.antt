@@ -1,14 +1,14 @@
 -- Laws of the reader: what `locate` and `open_table` give is what they promise, and nothing else is.
 --
---   entry-four, entries-pass   4, decided by the pass over what stands behind the header
---   rows-twelve, rows_pass   12, decided by the pass over the tables
---   part-within, part_body, part-accepted   the part of the bundle that the header tells for a table
+--   entry_four, entries_pass   4, decided by the pass over what stands behind the header
+--   rows_twelve, rows_pass   12, decided by the pass over the tables
+--   part_within, part_body, part_accepted   the part of the bundle that the header tells for a table
 --   numbers, zeros           the numbers of an opened table, and those beside a refusal
---   opens-table              an accepted bundle that has a table j opens it
---   locate-refused, locate-none, locate-opens   the three answers of `locate`
---   open-accepted            an opened table is one of an accepted bundle
---   locate-unique, open-unique   two results that the promise allows are equal
---   found_within, body-shown, opens   what is located and cut out of the bundle is the table
+--   opens_table              an accepted bundle that has a table j opens it
+--   locate_refused, locate_none, locate_opens   the three answers of `locate`
+--   open_accepted            an opened table is one of an accepted bundle
+--   locate_unique, open_unique   two results that the promise allows are equal
+--   found_within, body_shown, opens   what is located and cut out of the bundle is the table
 use mathlib.Core.Path.{◌≡◌, sym, ap, ap₂, ◌∙◌, subst}
 use mathlib.Core.Bool.{Bool, true, false}
 use mathlib.Core.List.{List, []}

@@ -9,14 +9,14 @@
 --   EqualRowsIn b       12: two equal rows in some table
 --   NoSuchTable b j     5: table number not in the bundle
 --   table_checks_of b j   the checks of one table: 3, 10, 11
---   tables_checks b j m  those of the tables j to j + m − 1, table by table
---   frame_checks b       9 and 1
---   remain_checks b      11: bytes remaining
---   layout_checks b      9, 1, the checks of each table, and bytes remaining
---   body_checks b        4 over all bodies, then 12 over all bodies
---   bundle_checks b      all that do not depend on the table asked for: the layout, then the bodies
---   number_checks b j    5
---   open_checks b j      the checks of `open table j`: those of the bundle, then 5
+--   tables_checks b j m   those of the tables j to j + m − 1, table by table
+--   frame_checks b      9 and 1
+--   remain_checks b     11: bytes remaining
+--   layout_checks b     9, 1, the checks of each table, and bytes remaining
+--   body_checks b       4 over all bodies, then 12 over all bodies
+--   bundle_checks b     all that do not depend on the table asked for: the layout, then the bodies
+--   number_checks b j   5
+--   open_checks b j     the checks of `open table j`: those of the bundle, then 5
 --
 -- Each condition stands with its test, `tests-..`.
 use Rattle.std.specs.Prelude.{◌≡◌, Bool, not, ◌&&◌, ◌||◌, List, [], ◌∷◌, ◌++◌, ◌⊎◌, ℕ, zero, suc, ◌+◌, ◌≤◌, ◌<◌, leb, ltb, eqb, length}
@@ -26,7 +26,8 @@ use Rattle.checks.proofs.TestLaws.{tests_le, tests_lt, tests_eq, tests_and, test
 use Rattle.checks.specs.Refusals.{Check, check}
 use Rattle.terms.specs.Monomials.{EqualRows}
 use Rattle.terms.specs.TableChecks.{EntryAbove50, tests_entry_above50, tests_not_one_to_six}
-use Rattle.distinct.specs.EqualRows.{equal_rows_test, tests_equal_rows}
+use Rattle.distinct.specs.EqualRows.{equal_rows_test}
+use Rattle.distinct.proofs.TestLaws.{tests_equal_rows}
 use Rattle.bundle.specs.Format.{variables_of, table_count, header_length, row_count, offset_of, body_length, place_of, body_of, table_of}
 
 -- ---- the conditions

@@ -1,26 +1,26 @@
 -- The format of a bundle. Byte 0 is n, byte 1 the number of tables; then for each table four bytes, its row count and
 -- its offset from the bundle's start, 16 bits each, low byte first; then the bodies in order without gaps.
 --
---   byte_at b i        byte i; past the end it reads as 0
+--   byte_at b i       byte i; past the end it reads as 0
 --   number16 b i      the 16-bit number at i, low byte first
---   variables_of b     n
---   table_count b      the number of tables
---   header_length b    the length of what stands before the first body
---   row_count b j      the row count that the header gives for table j. Tables count from 0
---   offset_of b j      the offset that the header gives for table j
---   body_length b j    the length of table j's body
---   place_of b j       where body j must begin: behind the header and the bodies before it. At the number of tables it
+--   variables_of b    n
+--   table_count b     the number of tables
+--   header_length b   the length of what stands before the first body
+--   row_count b j     the row count that the header gives for table j. Tables count from 0
+--   offset_of b j     the offset that the header gives for table j
+--   body_length b j   the length of table j's body
+--   place_of b j      where body j must begin: behind the header and the bodies before it. At the number of tables it
 --                     is where the last body ends
---   body_of b j        the bytes of table j
---   table_of b j       the rows of table j
---   tables_from b j m  the tables j to j + m − 1
---   tables_of b        the tables, in order
+--   body_of b j       the bytes of table j
+--   table_of b j      the rows of table j
+--   tables_from b j m   the tables j to j + m − 1
+--   tables_of b       the tables, in order
 --   Bytes b           each element is a byte, as in every slice of bytes
 --   low m, high m     the two bytes of a 16-bit number
---   counts_of Ts       the row counts of tables
---   entries_of n p counts   the header's entries of tables with these row counts, the first body beginning at p
---   bodies_of Ts       the bodies of tables, end to end
---   bundle_of n Ts     the bundle of these tables
+--   counts_of Ts      the row counts of tables
+--   entries_of n p counts  the header's entries of tables with these row counts, the first body beginning at p
+--   bodies_of Ts      the bodies of tables, end to end
+--   bundle_of n Ts    the bundle of these tables
 --
 -- The readings are total: they say something of every list, a bundle or not.
 use Rattle.std.specs.Prelude.{List, [], ◌∷◌, ◌++◌, ℕ, zero, suc, ◌+◌, ◌*◌, ◌/◌, ◌%◌, ◌<◌, length, get_or, take, drop}

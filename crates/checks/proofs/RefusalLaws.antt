@@ -1,14 +1,14 @@
 -- Laws of refusals: a number is given exactly when its condition holds and none earlier in the order does.
 --
---   refusal-refuses, refuses-refusal   the number that is computed is the number given
---   accepted, accepts-refusal          0 is computed exactly where no condition holds
---   accepts-head, accepts-tail, accepts-left, accepts-right   what passes a list passes each part
---   accepts-cons, accepts-append       and what passes each part passes the list
---   refusal-append, refusal-first      the refusal of a list in two parts: the second decides, or the first does
---   refuses-first, passes-first        the same of a number that was computed
---   first_passes, rest-passes          where the list refuses nothing, neither part does
---   answered-accepted, answered-refused   what is given beside the number, accepted and refused
---   numbered-refused                   the answer whose number is not 0 is the refusal by that number
+--   refusal_refuses, refuses_refusal   the number that is computed is the number given
+--   accepted, accepts_refusal          0 is computed exactly where no condition holds
+--   accepts_head, accepts_tail, accepts_left, accepts_right   what passes a list passes each part
+--   accepts_cons, accepts_append       and what passes each part passes the list
+--   refusal_append, refusal_first      the refusal of a list in two parts: the second decides, or the first does
+--   refuses_first, passes_first        the same of a number that was computed
+--   first_passes, rest_passes          where the list refuses nothing, neither part does
+--   answered_accepted, answered_refused   what is given beside the number, accepted and refused
+--   numbered_refused                   the answer whose number is not 0 is the refusal by that number
 use mathlib.Core.Path.{◌≡◌, refl, sym, ap, ◌∙◌, subst}
 use mathlib.Core.Bool.{Bool, true, false}
 use mathlib.Core.List.Memᴰ

@@ -1,13 +1,13 @@
 -- Laws of tests: what a test says, and tests made of tests.
 --
 --   decide, stable         what is tested is decided; so what is not refuted holds
---   tests-true, tests-false, true-tests, false-tests   the Boolean from the rule, and the rule from the Boolean
---   pick_true, pick-false  what the test picks
---   tests-as, tests_same   a test of the same property in other words; two tests of one property are the same Boolean
---   tests-le, -lt, -eq     tests of numbers
---   tests-and, -or, -not, -implies   tests made of tests
---   tests-each, -someBelow, -all, -any   of each number, some number, each element, some element
---   keep-in, keep-make     what is kept: the elements of which the test holds
+--   tests_true, tests_false, true_tests, false_tests   the Boolean from the rule, and the rule from the Boolean
+--   pick_true, pick_false  what the test picks
+--   tests_as, tests_same   a test of the same property in other words; two tests of one property are the same Boolean
+--   tests_le, -lt, -eq     tests of numbers
+--   tests_and, -or, -not, -implies   tests made of tests
+--   tests_each, -someBelow, -all, -any   of each number, some number, each element, some element
+--   keep_in, keep_make     what is kept: the elements of which the test holds
 use mathlib.Core.Path.{◌≡◌, refl, sym, ap, subst}
 use mathlib.Core.Bool.{Bool, true, false, not, ◌&&◌, ◌||◌}
 use mathlib.Core.List.Memᴰ

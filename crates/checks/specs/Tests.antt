@@ -4,7 +4,7 @@
 --   pick b x y       x where b is true, y where it is false
 --   b implies c      the Boolean of 'if b then c'
 --   each n f         f holds of each number 1 to n
---   SomeBelow n P, some_below n f   P holds of some number below n, and its test
+--   SomeBelow n P, some_below n f  P holds of some number below n, and its test
 --   all f l, any f l   f holds of each element of l, of some element
 --   keep f l         the elements of l of which f holds, in their order
 --

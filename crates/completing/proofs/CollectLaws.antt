@@ -1,10 +1,10 @@
 -- The operation: from a table of bytes to the recursion, and from its rows to the promise.
 --
---   collect-roomy, copied-fits, links-fit, rows-hold   the working arrays are large enough, and the array for the completed rows
+--   collect_roomy, copied_fits, links_fit, rows_hold   the working arrays are large enough, and the array for the completed rows
 --   collected              the recursion on the whole table gives rule 5's table
---   room_whole, room-limit   the room, where it is the buffer's and where it is 4,096
---   checked, collect-asks  what the checks let pass, and that it can be collected
---   complete-early, complete-full, complete-done   the promise: refused by the checks 1 to 4 and 12, refused for room, accepted
+--   room_whole, room_limit   the room, where it is the buffer's and where it is 4,096
+--   checked, collect_asks  what the checks let pass, and that it can be collected
+--   complete_early, complete_full, complete_done   the promise: refused by the checks 1 to 4 and 12, refused for room, accepted
 use mathlib.Core.Path.{◌≡◌, sym, ap, ◌∙◌}
 use mathlib.Core.List.{List, [], ◌∷◌}
 use Prim.Native.Nat.{ℕ, zero, suc, ◌+◌, ◌*◌, ◌-◌, ◌/◌, ◌≤◌, ◌<◌}

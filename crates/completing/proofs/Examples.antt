@@ -1,8 +1,8 @@
 -- Examples J and E of the paper, of what `complete` promises: D's rows with 6 bytes of room and with 5, and a row twice.
 --
---   example-J-accepted, -refused   every result that the promise allows
---   example-J-written, -kept       what the lent bytes become
---   example-E        rows 1 0 and 1 0: refused by 12, whatever the room
+--   example_j_accepted, -refused   every result that the promise allows
+--   example_j_written, -kept       what the lent bytes become
+--   example_e        rows 1 0 and 1 0: refused by 12, whatever the room
 use mathlib.Core.Path.{◌≡◌, refl, ap, ap₂, ◌∙◌}
 use mathlib.Core.List.{List, [], ◌∷◌}
 use Prim.Native.Nat.{ℕ}

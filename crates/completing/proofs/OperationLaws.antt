@@ -1,14 +1,14 @@
 -- Laws of what `complete` promises.
 --
---   complete-unique        two results that the promise allows are equal
---   complete-accepts       where no check refuses: the row count, the rows at the front, and the bytes behind them
---   complete-refuses       where one does: its number, and the buffer as it was
---   complete-rows          an accepted result: the first rows of the buffer are rule 5's table of the given rows, and the bytes behind them stay
---   complete-count, complete-written, complete-front, complete-behind   its row count, the buffer, the bytes of those rows, and the bytes behind them
---   complete-positive      the number of a refusal is above 0
---   complete-length        no result changes the buffer's length
+--   complete_unique        two results that the promise allows are equal
+--   complete_accepts       where no check refuses: the row count, the rows at the front, and the bytes behind them
+--   complete_refuses       where one does: its number, and the buffer as it was
+--   complete_rows_lem      an accepted result: the first rows of the buffer are rule 5's table of the given rows, and the bytes behind them stay
+--   complete_count, complete_written, complete_front, complete_behind   its row count, the buffer, the bytes of those rows, and the bytes behind them
+--   complete_positive      the number of a refusal is above 0
+--   complete_length        no result changes the buffer's length
 --   room_fits              rows within the room fit the buffer
---   room-enough, no_room   8 after the checks 1 to 4 and 12 passed, in terms of the completed table
+--   room_enough, no_room   8 after the checks 1 to 4 and 12 passed, in terms of the completed table
 use mathlib.Core.Path.{◌≡◌, refl, sym, ap, ap₂, ◌∙◌, subst}
 use mathlib.Core.List.{List, [], ◌∷◌}
 use Prim.Native.Nat.{ℕ, zero, suc, ◌*◌, ◌/◌, ◌≤◌, ◌<◌}

@@ -1,12 +1,12 @@
 -- What `complete` promises.
 --
---   room_for n size         the room for completed rows in a lent buffer: the lesser of 4,096 and its length divided by n, rounded down
---   completed_of n table    the completed table of the rows that the bytes are
+--   room_for n size        the room for completed rows in a lent buffer: the lesser of 4,096 and its length divided by n, rounded down
+--   completed_of n table   the completed table of the rows that the bytes are
 --   NoRoom n table size    8: more rows than room
---   complete_checks n table size   the checks in order: 1 to 4 and 12 of the table, 8
---   complete_number, complete_rows  the paper's number of an answer, 0 for none, and the row count, 0 beside a refusal
---   complete_answer m k     the answer of that number and row count: the rows, or the refusal
---   completed_buffer n table buffer   the buffer with the completed rows at its front; the bytes behind them stay
+--   complete_checks n table size  the checks in order: 1 to 4 and 12 of the table, 8
+--   complete_number, complete_rows   the paper's number of an answer, 0 for none, and the row count, 0 beside a refusal
+--   complete_answer m k    the answer of that number and row count: the rows, or the refusal
+--   completed_buffer n table buffer  the buffer with the completed rows at its front; the bytes behind them stay
 --   CompletePromise n table buffer answer after   the promise: the number is that of the first check that refuses, the row count that of
 --                          the completed table, the answer the one of that number and count, and the buffer has the table, or on refusal is as it was
 use Rattle.std.specs.Prelude.{◌≡◌, List, [], ◌∷◌, ◌++◌, ℕ, ◌*◌, ◌/◌, ◌<◌, min, ltb, length, drop}

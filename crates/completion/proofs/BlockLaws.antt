@@ -1,15 +1,15 @@
 -- Laws of ascending lists of rows, and of such lists built block by block.
 --
---   ascending-make, -append, -keep   an ascending list from a first row and a list, from two lists, from the rows kept of one
---   ascending-front        an ascending list that has every row of another up to its own last one is a front part of it
---   precedes-head, head-precedes   the order and the first exponents
+--   ascending_make, -append, -keep   an ascending list from a first row and a list, from two lists, from the rows kept of one
+--   ascending_front        an ascending list that has every row of another up to its own last one is a front part of it
+--   precedes_head, head_precedes   the order and the first exponents
 --   behind-.., repeated-..   the rows of these blocks, and that they ascend
---   box-row, box-member, box-ascending   the box has exactly the monomials within its caps
+--   box_row, box_member, box_ascending   the box has exactly the monomials within its caps
 --   Lists P H              the rows of H are exactly the monomials with P, and they ascend
---   lists-unique           there is one such list
+--   lists_unique           there is one such list
 --   Heads P S u            u is b ∷ t with P b and S b t
---   repeat-lists, behind-lists   the list of such rows, longer by blocks under further heads
---   heads-front            the list over the first heads is a front part of the list over more heads
+--   repeat_lists, behind_lists   the list of such rows, longer by blocks under further heads
+--   heads_front            the list over the first heads is a front part of the list over more heads
 use mathlib.Core.Path.{◌≡◌, refl, sym, ap, ap₂, ◌∙◌, subst}
 use mathlib.Core.Bool.{Bool, true, false}
 use mathlib.Core.List.Memᴰ

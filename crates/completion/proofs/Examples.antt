@@ -1,7 +1,7 @@
 -- Examples A, B, D, H and I of the paper, of rule 5.
 --
---   example-A ..           the completed table computes to the paper's
---   example-A-table ..     that table is rule 5's, in the paper's words
+--   example_a ..           the completed table computes to the paper's
+--   example_a_table ..     that table is rule 5's, in the paper's words
 use mathlib.Core.Path.{◌≡◌, refl, subst}
 use mathlib.Core.List.{[]}
 use Prim.Native.Nat.{ℕ}

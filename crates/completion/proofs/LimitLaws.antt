@@ -2,13 +2,13 @@
 -- before it settle. Rule 5's table is the one of Janet's limit, the last growing head; a cap for each variable is another limit.
 --
 --   Limited n limit G u    u is in the ideal of G, and each exponent of u is at most the limit of the exponents before it
---   limited-ideal          only the ideal counts
---   limited-slice, slice-limited   a ∷ t is limited exactly where a is at most the limit of nothing, and t is limited in the slice up to a
---   limited-heads          so the limited monomials are the blocks of the slices under the heads up to the limit
---   janet_limit G p         the last growing head of the slice of G that the exponents p lead to
---   completed-limited, limited-completed   rule 5's monomials are those of Janet's limit
---   cap_limit caps p        the cap of the variable behind the exponents p
---   Capped n caps G u      u is in the ideal of G and divides caps; capped-limited, limited-capped: those are the monomials of that limit
+--   limited_ideal          only the ideal counts
+--   limited_slice, slice_limited   a ∷ t is limited exactly where a is at most the limit of nothing, and t is limited in the slice up to a
+--   limited_heads          so the limited monomials are the blocks of the slices under the heads up to the limit
+--   janet_limit G p        the last growing head of the slice of G that the exponents p lead to
+--   completed_limited, limited_completed   rule 5's monomials are those of Janet's limit
+--   cap_limit caps p       the cap of the variable behind the exponents p
+--   Capped n caps G u      u is in the ideal of G and divides caps; capped_limited, limited_capped: those are the monomials of that limit
 use mathlib.Core.Path.{◌≡◌, sym, ap, subst}
 use mathlib.Core.List.{[], ◌∷◌, tail}
 use mathlib.Core.Logic.{◌⊎◌, inl, inr, ⊎_elim, by_cases}

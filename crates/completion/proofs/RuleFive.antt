@@ -1,13 +1,13 @@
 -- Laws of rule 5's table: its tests, that `completed` is it, and that there is one only.
 --
---   tests-enters, tests-completed   the tests agree with rule 5
---   candidate-before, -here, -behind   the exponents of the candidate
---   completed-within       no exponent of a row of the completed table is above the largest given one
---   largest-most           the largest exponents are at most what each given exponent is at most
---   completed-table        `completed n G` is the completed table of the ideal of G
---   completed-most         where no given exponent is above b, none of the completed table is
---   completed-unique       there is one completed table of an ideal
---   enters-ideal, completed-ideal, table-ideal, completed-same-ideal   only the ideal counts
+--   tests_enters, tests_completed   the tests agree with rule 5
+--   candidate_before, -here, -behind   the exponents of the candidate
+--   completed_within       no exponent of a row of the completed table is above the largest given one
+--   largest_most           the largest exponents are at most what each given exponent is at most
+--   completed_table        `completed n G` is the completed table of the ideal of G
+--   completed_most         where no given exponent is above b, none of the completed table is
+--   completed_unique       there is one completed table of an ideal
+--   enters_ideal, completed_ideal, table_ideal, completed_same_ideal   only the ideal counts
 use mathlib.Core.Path.{◌≡◌, refl, sym, ap, ◌∙◌}
 use mathlib.Core.Bool.{Bool}
 use mathlib.Core.List.Memᴰ

@@ -1,20 +1,20 @@
 -- The laws of the completion by slices of the first variable. A row is a ∷ t, with the head a and the tail t.
 --
---   slice-row, -member, -size   the rows of a slice
---   Slice P G q            q is in the ideal of the tails of the rows whose head has P; below-use, below-make: for the heads below a
---   slice-into, slice_back   law 2: a ∷ q is in the ideal of G exactly where q is in that of the slice of the heads up to a
+--   slice_row, -member, -size   the rows of a slice
+--   Slice P G q            q is in the ideal of the tails of the rows whose head has P; below_use, below_make: for the heads below a
+--   slice_into, slice_back   law 2: a ∷ q is in the ideal of G exactly where q is in that of the slice of the heads up to a
 --   Beyond a G             the tail of some row is outside the ideal of the slice below a
---   completed-slice, slice-completed   law 3: rule 5 by slices
+--   completed_slice, slice_completed   law 3: rule 5 by slices
 --   Grows a G              the tail of some row of head a is outside the ideal of the slice below a: the ideal grows at a
---   tests-grows, still, grows-beyond, beyond-grows   law 4
---   tests-grows-by, generates-under    law 6: other generators
+--   tests_grows, still, grows_beyond, beyond_grows   law 4
+--   tests_grows_by, generates_under    law 6: other generators
 --   Last G a last          last is the largest growing head below a, or 0
 --   ByIdeal n S            what S gives for a table depends on its ideal alone, and lies in it
 --   Upto S G a last        the monomials b ∷ t with b below a and at most last, and t of S for the slice up to b
---   upto_stays, upto-grows   law 5: one step, for any S that ideals settle (`ByIdeal`)
---   front-table, finish    Janet: after the heads below a, the completed table of the rows with such a head
---   front-part             what is written at any time is a front part of the completed table
---   no-variables, one-variable   law 7
+--   upto_stays, upto_grows   law 5: one step, for any S that ideals settle (`ByIdeal`)
+--   front_table, finish    Janet: after the heads below a, the completed table of the rows with such a head
+--   front_part             what is written at any time is a front part of the completed table
+--   no_variables, one_variable   law 7
 --
 -- Law 1, only the ideal counts, is in CompletedLaws.
 use mathlib.Core.Path.{◌≡◌, refl, sym, ap, ◌∙◌, subst}

@@ -2,13 +2,13 @@
 -- Throughout H is the completed table of the ideal of G: CompletedTable n G H.
 --
 --   put u i a              u with the exponent a at variable i
---   enters-down            where rule 5 holds for an exponent at i, it holds for each smaller one above 0
---   completion-divisor     each monomial of the ideal has a Janet divisor in H
---   completion-ideal       H has the same ideal
---   completion-complete    H is complete
---   completion-size, completion-distinct   its rows have n exponents, and no row occurs twice
---   completion-one, completion-none   a monomial that a given row divides has exactly one divisor in H by row number; one that none divides has none
---   completed-contained    every complete table of the ideal has the rows of H
+--   enters_down            where rule 5 holds for an exponent at i, it holds for each smaller one above 0
+--   completion_divisor     each monomial of the ideal has a Janet divisor in H
+--   completion_ideal       H has the same ideal
+--   completion_complete    H is complete
+--   completion_size, completion_distinct   its rows have n exponents, and no row occurs twice
+--   completion_one, completion_none   a monomial that a given row divides has exactly one divisor in H by row number; one that none divides has none
+--   completed_contained    every complete table of the ideal has the rows of H
 use mathlib.Core.Path.{◌≡◌, refl, sym, ap, ◌∙◌}
 use mathlib.Core.List.Memᴰ
 use mathlib.Core.Logic.{by_cases}

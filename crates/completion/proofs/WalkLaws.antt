@@ -3,14 +3,14 @@
 --
 --   Family n S Ok          what the walk asks of S, and of the tables that it gives to the recursion
 --   Passed a w             what holds of a walk that has passed the heads below a
---   passed-step, passed    it holds after one more head, and after each number of them
---   slices-table           the recursion gives the completed table of every table
---   slices-completed       it is `completed`
---   slices-none, slices-one   no rows; one variable: the least exponent
---   slices-walk, walk-stays, walk-grows   the recursion and the walk, equation by equation
---   walk-no-longer, walk-room    the generators are no more than the rows passed, and with the tails of a head no more than the rows
---   walk-generators, walk_block, walk-written   the sizes of the rows in the walk of `slices`
---   walk-part              what the walk has written is a front part of the result
+--   passed_step, passed    it holds after one more head, and after each number of them
+--   slices_table           the recursion gives the completed table of every table
+--   slices_completed       it is `completed`
+--   slices_none, slices_one   no rows; one variable: the least exponent
+--   slices_walk, walk_stays, walk_grows   the recursion and the walk, equation by equation
+--   walk_no_longer, walk_room    the generators are no more than the rows passed, and with the tails of a head no more than the rows
+--   walk_generators, walk_block, walk_written   the sizes of the rows in the walk of `slices`
+--   walk_part              what the walk has written is a front part of the result
 use mathlib.Core.Path.{◌≡◌, refl, ap}
 use mathlib.Core.Bool.{Bool, true, false}
 use mathlib.Core.List.Memᴰ

@@ -1,10 +1,10 @@
 -- Laws of the contracts of count, polynomial and steady.
 --
---   count-unique, polynomial-unique, steady-unique   two answers that a promise allows are equal
---   count-refused, count-given ..  what an operation has to show, refused and accepted
---   late-5, late-passed, countable-6, countable-7, countable-0   the checks 5, 6 and 7
---   count-checked, steady-checked  what is known of a table that no check refuses
---   can-mark, can-sum              so count and polynomial may mark it, and sum over it with its marks
+--   count_unique, polynomial_unique, steady_unique   two answers that a promise allows are equal
+--   count_refused, count_given ..  what an operation has to show, refused and accepted
+--   late_5, late_passed, countable_6, countable_7, countable_0   the checks 5, 6 and 7
+--   count_checked, steady_checked  what is known of a table that no check refuses
+--   can_mark, can_sum              so count and polynomial may mark it, and sum over it with its marks
 use mathlib.Core.Path.{◌≡◌, refl, sym, ap₂, ◌∙◌}
 use mathlib.Core.List.{List, [], ◌∷◌, ◌++◌}
 use Prim.Native.Nat.{ℕ, ◌≤◌}

@@ -2,11 +2,11 @@
 --
 --   Above300 s              5: s above 300, with its check `degree_check`
 --   NotComplete n table     7: the table is not complete, with its check `complete_check`; 6, `order_check`, is that of find
---   countable_checks n table     6 and 7, with which all three end
---   count_checks n table s   the checks of count and polynomial, in order: 1 to 4 of the table, 5, 6, 7
---   steady_checks n table    the checks of steady: 1 to 4, 6, 7
+--   countable_checks n table    6 and 7, with which all three end
+--   count_checks n table s  the checks of count and polynomial, in order: 1 to 4 of the table, 5, 6, 7
+--   steady_checks n table   the checks of steady: 1 to 4, 6, 7
 --   count_number, count_value, and likewise polynomial.., steady..   the paper's number of an answer, 0 for none, and the value beside it, 0 beside a refusal
---   count_answer m v, and likewise polynomial.., steady..   the answer of that number and value: the value, or the refusal
+--   count_answer m v, and likewise polynomial.., steady..  the answer of that number and value: the value, or the refusal
 --   CountPromise n table s answer, PolynomialPromise, SteadyPromise   the promise: the number is that of the first check that refuses,
 --                    the value is that of the rule, and the answer is the one of that number and value
 use Rattle.std.specs.Prelude.{◌≡◌, not, List, [], ◌∷◌, ◌++◌, ℕ, ◌<◌, ltb, ℤ, pos}

@@ -1,13 +1,13 @@
 -- Laws of the count (rule 7).
 --
---   up_to_only        `monomials_up_to n s` holds monomials of n exponents and degree at most s, and no other
---   up_to_once        it holds each of them exactly once
---   count-outside    `count_at n G s` is rule 7's number
---   outside-unique   there is one such number
---   up_to_length      they are C(n + s, n)
---   shares-inside    for any marks whose cones are disjoint by row number and cover the ideal, the sum of the cones' shares is the number of
+--   up_to_only       `monomials_up_to n s` holds monomials of n exponents and degree at most s, and no other
+--   up_to_once       it holds each of them exactly once
+--   count_outside    `count_at n G s` is rule 7's number
+--   outside_unique   there is one such number
+--   up_to_length     they are C(n + s, n)
+--   shares_inside    for any marks whose cones are disjoint by row number and cover the ideal, the sum of the cones' shares is the number of
 --                    monomials of the ideal up to s
---   count-formula    with the count they make C(n + s, n)
+--   count_formula    with the count they make C(n + s, n)
 --   count_zeros      with a row of zeros every count is 0
 use mathlib.Core.Path.{◌≡◌, refl, sym, ap, ap₂, ◌∙◌, subst}
 use mathlib.Core.Bool.{Bool, true, false, not}

@@ -1,9 +1,9 @@
 -- The examples A to D of the rules, as far as they are counts.
 --
---   example-A        no rows, n = 2: the count at 1 is 3
---   example-B        the row 0 0: every count is 0
---   example-C-count, example-C-polynomial        the row 3, n = 1: the count at 2 is 3, the polynomial is 3 at every s
---   example-D        the rows 0 2, 1 2, 2 1: the count at 3 is 6; the polynomial at 0 is 3 while the count is 1; the steady degree is 3
+--   example_a        no rows, n = 2: the count at 1 is 3
+--   example_b        the row 0 0: every count is 0
+--   example_c_count, example_c_polynomial        the row 3, n = 1: the count at 2 is 3, the polynomial is 3 at every s
+--   example_d        the rows 0 2, 1 2, 2 1: the count at 3 is 6; the polynomial at 0 is 3 while the count is 1; the steady degree is 3
 use mathlib.Core.Path.{◌≡◌, refl, sym, ap, ap₂, ◌∙◌}
 use mathlib.Core.List.Memᴰ
 use mathlib.Core.List.{[], ◌∷◌}

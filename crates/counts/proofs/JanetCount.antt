@@ -1,8 +1,8 @@
 -- The count by Janet's cones: of a complete ascending table they are disjoint and cover the ideal, so the laws for any marks hold of them.
 --
 --   CountTable n G   what is asked of the table: n exponents a row, complete, ascending
---   janet-shares     the sum of the shares is the number of monomials of the ideal up to s
---   janet-count      rule 7: with the count they make C(n + s, n)
+--   janet_shares     the sum of the shares is the number of monomials of the ideal up to s
+--   janet_count      rule 7: with the count they make C(n + s, n)
 use mathlib.Core.Path.{◌≡◌, ap, ◌∙◌}
 use Prim.Native.Nat.{ℕ, ◌+◌, ◌≤◌}
 use lib.ListN.{length}

@@ -1,9 +1,9 @@
 -- Laws of the polynomial (rule 8) and of the steady degree (rule 9).
 --
---   steady-le, steady-least   the steady degree is the least number that no degree of a row exceeds
---   steady-most            and at most b for each variable where no exponent is above b
---   signed-share-inside    where the row's degree is not above s, the share with a sign is the share
---   polynomial-count       from the steady degree on the polynomial is the count
+--   steady_le, steady_least   the steady degree is the least number that no degree of a row exceeds
+--   steady_most            and at most b for each variable where no exponent is above b
+--   signed_share_inside    where the row's degree is not above s, the share with a sign is the share
+--   polynomial_count       from the steady degree on the polynomial is the count
 use mathlib.Core.Path.{◌≡◌, refl, sym, ap, ap₂, ◌∙◌}
 use mathlib.Core.List.Memᴰ
 use mathlib.Core.List.{[], ◌∷◌}

@@ -1,13 +1,13 @@
 -- Laws of a cone's share: how many monomials of degree at most s lie in the cone of a row.
 --
 --   size s d m       the share by steps: each degree of the row lowers s by one
---   share-inside, share-outside, share-unmarked   the cases of rule 7
---   share-size       the share by steps is the share of rule 7
---   cone_test ks u q  q is in the cone of u, variable by variable; ks has a Boolean for each variable: marked or not
---   tests-cone       that test agrees with rule 3
---   cone-count       the share is the number of monomials up to s in the cone
+--   share_inside, share_outside, share_unmarked   the cases of rule 7
+--   share_size_lem   the share by steps is the share of rule 7
+--   cone_test ks u q   q is in the cone of u, variable by variable; ks has a Boolean for each variable: marked or not
+--   tests_cone       that test agrees with rule 3
+--   cone_count       the share is the number of monomials up to s in the cone
 --   listed n f       the marks of the variables 1 to n as a list
---   weight-listed    their number
+--   weight_listed    their number
 use mathlib.Core.Path.{◌≡◌, refl, sym, ap, ap₂, ◌∙◌}
 use mathlib.Core.Bool.{Bool, true, false, ◌&&◌}
 use mathlib.Core.List.{List, [], ◌∷◌, map}

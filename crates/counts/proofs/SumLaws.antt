@@ -1,10 +1,10 @@
 -- Laws of sums over lists, and of how many elements a test keeps.
 --
 --   bit b            1 where b is true, 0 where it is false
---   sum-append, sum-add, sum-zero, sum_same, sum-map, sum-swap, sum-le   sums
---   length-keep      the number of elements kept is the sum of the bits
---   sum-keep         elements that add nothing may be dropped
---   keep-or-not      those kept and those not kept are all
+--   sum_append, sum_add, sum_zero, sum_same, sum_map, sum_swap, sum_le   sums
+--   length_keep      the number of elements kept is the sum of the bits
+--   sum_keep         elements that add nothing may be dropped
+--   keep_or_not      those kept and those not kept are all
 --   one_at_most      where no two places pass, the sum of the bits is the bit of 'some element passes'
 use mathlib.Core.Path.{◌≡◌, refl, sym, ap₂, ◌∙◌, subst}
 use mathlib.Core.Bool.{Bool, true, false, not, ◌||◌}

@@ -2,12 +2,12 @@
 --
 --   monomials_up_to n s   the monomials of n exponents and of degree at most s, each once
 --   CountsOutside n G s k   rule 7: k is the number of monomials of n exponents and of degree at most s outside the ideal of G
---   count_at n G s    that number
+--   count_at n G s   that number
 --   share s d m      rule 7: what a row of degree d with m marks takes away at s
 --   chooseℤ t m      rule 8: C(t, m) for any t, also a negative one
---   signed_share s d m   rule 8: a row's share with no row left out
---   polynomial_at n G s  rule 8
---   steady_of G       rule 9: the largest degree of a row, 0 for no rows
+--   signed_share s d m  rule 8: a row's share with no row left out
+--   polynomial_at n G s   rule 8
+--   steady_of G      rule 9: the largest degree of a row, 0 for no rows
 --
 -- With `sum`, `sumℤ` over the elements of a list, and `occurrences q l`, how often q occurs in l.
 use Rattle.std.specs.Prelude.{◌≡◌, Bool, true, false, not, ◌&&◌, ℕ, zero, suc, ◌+◌, ◌-◌, ◌≤◌, max, leb, eqb, length, ℤ, pos, negsuc, neg_ℤ, ◌+ℤ◌, ◌-ℤ◌}

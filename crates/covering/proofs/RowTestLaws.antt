@@ -1,11 +1,11 @@
 -- Laws of the check whether an ascending table is complete, for the code that asks it row by row.
 --
---   product-length                  a row's bytes with one of them raised: how many they are
---   row-asks, row_gives             what `row_complete` asks of a row that was read, and what it gives
---   product-row, product-nothing    they are the row times that variable, and this has a Janet divisor exactly where the descent finds a row
---   marked-variable, unmarked-variable   the test of a variable, by its bit of the marks
---   each-goes-on, each-fails        a test of each variable, one after the other
---   last-complete, next-complete, complete-fails, complete-whole, complete-none   rule 4's test, row after row from the end
+--   product_length                  a row's bytes with one of them raised: how many they are
+--   row_asks, row_gives             what `row_complete` asks of a row that was read, and what it gives
+--   product_row, product_nothing    they are the row times that variable, and this has a Janet divisor exactly where the descent finds a row
+--   marked_variable, unmarked_variable   the test of a variable, by its bit of the marks
+--   each_goes_on, each_fails        a test of each variable, one after the other
+--   last_complete, next_complete, complete_fails, complete_whole, complete_none   rule 4's test, row after row from the end
 use mathlib.Core.Path.{◌≡◌, refl, sym, ap, ◌∙◌, subst}
 use mathlib.Core.Bool.{Bool, true, false, ◌&&◌}
 use mathlib.Core.List.Memᴰ

@@ -1,8 +1,8 @@
 -- The check whether a table is complete, row by row.
 --
 --   Small G          each exponent of G is at most 50
---   variable_test G u i   variable i is multiplicative for u, or u times i has a Janet divisor
---   row_test n G u    the same of each variable
+--   variable_test G u i  variable i is multiplicative for u, or u times i has a Janet divisor
+--   row_test n G u   the same of each variable
 use Rattle.std.specs.Prelude.{Bool, not, ℕ, ◌<◌, length}
 use Rattle.checks.specs.Tests.{◌implies◌, each}
 use Rattle.terms.specs.Monomials.{Monomial, Table, row_at, AtMost, times}

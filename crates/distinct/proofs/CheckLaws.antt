@@ -1,8 +1,8 @@
 -- Laws of the checks 1 to 4 and 12.
 --
---   refuses-equal, refuses-distinct   the number of the first check that refuses, where the checks 1 to 4 pass
---   distinct-table, distinct-rows     what is known of a table that passed them all
---   distinct-passed, distinct-listed  the same where their refusal is 0, alone or in front of other checks
+--   refuses_equal, refuses_distinct   the number of the first check that refuses, where the checks 1 to 4 pass
+--   distinct_table, distinct_rows     what is known of a table that passed them all
+--   distinct-passed, distinct_listed  the same where their refusal is 0, alone or in front of other checks
 use mathlib.Core.Path.{◌≡◌, sym, ◌∙◌}
 use mathlib.Core.List.{List, [], ◌∷◌, ◌++◌}
 use Prim.Native.Nat.{ℕ}

@@ -1,11 +1,11 @@
 -- Laws of equal rows.
 --
 --   SameBehind i u v   u and v are equal in each variable behind i
---   same-beyond, same-before-next, same_rows   two rows are compared from the last variable to the first
+--   same_beyond, same_before_next, same_rows   two rows are compared from the last variable to the first
 --   ascends_none           strictly ascending rows are not equal
---   neighbours-equal, neighbours-none   two neighbours of a listing are equal; where no two are, no two rows are
---   found-equal, neighbours-next        what the answer about two neighbours says
---   distinct-precedes      of distinct rows, each that is listed precedes every later one
+--   neighbours_equal, neighbours_none   two neighbours of a listing are equal; where no two are, no two rows are
+--   found_equal, neighbours_next        what the answer about two neighbours says
+--   distinct_precedes      of distinct rows, each that is listed precedes every later one
 use mathlib.Core.Path.{◌≡◌, refl, sym, ap, ◌∙◌, subst}
 use mathlib.Core.Bool.{Bool, true, false}
 use mathlib.Core.List.{List}
@@ -22,7 +22,8 @@ use Rattle.terms.proofs.MonomialLaws.{beyond, same_all}
 use Rattle.terms.proofs.OrderLaws.{precedes_irreflexive, precedes_trans, tests_ascending, ascending_distinct}
 use Rattle.ordering.specs.Listing.{Comes, listed, Listing}
 use Rattle.ordering.specs.Passes.{at}
-use Rattle.distinct.specs.EqualRows.{same_test, equal_rows_test, tests_same_monomial, tests_equal_rows}
+use Rattle.distinct.specs.EqualRows.{same_test, equal_rows_test, tests_same_monomial}
+use Rattle.distinct.proofs.TestLaws.{tests_equal_rows}
 
 -- ---- two rows, from the last exponent to the first
 

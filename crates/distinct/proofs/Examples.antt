@@ -1,7 +1,7 @@
 -- Equal rows by example: E has them and is refused by 12, D has none; and the order of the checks, by an input that two of them refuse.
 --
---   example-E        rows 0 and 1 of E are equal
---   refused-E, accepted-D   the number of E, and of D
+--   example_e        rows 0 and 1 of E are equal
+--   refused_e, accepted_d   the number of E, and of D
 --   entry_first      an entry above 50 and two equal rows: 4, and not 12
 --   far_apart        equal rows with others between them
 use mathlib.Core.Path.{◌≡◌, refl}

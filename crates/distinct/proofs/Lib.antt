@@ -1,4 +1,5 @@
 -- The laws of equal rows.
+pub mod TestLaws
 pub mod Examples
 pub mod EqualLaws
 pub mod CheckLaws

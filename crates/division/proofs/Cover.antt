@@ -1,9 +1,9 @@
 -- Rule 4: the cones of a complete table cover its ideal, and only that.
 --
 --   cover            in a complete table each monomial of the ideal has a Janet divisor
---   covers-complete  a table whose cones cover its ideal is complete, whatever the marks
---   outside-none     a monomial outside the ideal has no divisor, whatever the marks
---   inside-divisor   a monomial with a divisor is in the ideal
+--   covers_complete  a table whose cones cover its ideal is complete, whatever the marks
+--   outside_none     a monomial outside the ideal has no divisor, whatever the marks
+--   inside_divisor   a monomial with a divisor is in the ideal
 use mathlib.Core.Path.{◌≡◌, sym, ◌∙◌, subst}
 use mathlib.Core.List.{[]}
 use mathlib.Core.Logic.{⊎_elim, by_cases}

@@ -1,15 +1,15 @@
 -- Laws of rule 6: the descent finds the Janet divisor exactly where there is one, in few steps.
 --
---   descent-finds    what is found is a Janet divisor, and nothing is found where there is none
---   descent-scan     on distinct rows it is what a scan of all rows finds
---   descent-steps    the steps are at most the degree of q and the number of variables
---   descent-ended    where a row is found the descent ended at no variable, and else at one of 1 to n
---   covered-found    a monomial has a Janet divisor exactly where the descent finds a row
+--   descent_finds    what is found is a Janet divisor, and nothing is found where there is none
+--   descent_scan     on distinct rows it is what a scan of all rows finds
+--   descent_steps    the steps are at most the degree of q and the number of variables
+--   descent_ended    where a row is found the descent ended at no variable, and else at one of 1 to n
+--   covered_found    a monomial has a Janet divisor exactly where the descent finds a row
 --   stepped_on_in, stepped_on_make, stepped_on_rising   the exponents stepped on: those of the group that do not exceed q's, ascending
---   scan-finds       a scan gives the first Janet divisor, in a table in any order
---   scan-stops, scan-goes, scan-ends   the three cases of a scan at row r
---   answers-first    a first divisor is a divisor
---   first-unique, answers-unique   there is one first divisor, or none; and where cones are disjoint one divisor, or none
+--   scan_finds       a scan gives the first Janet divisor, in a table in any order
+--   scan_stops, scan_goes, scan_ends   the three cases of a scan at row r
+--   answers_first    a first divisor is a divisor
+--   first_unique, answers_unique   there is one first divisor, or none; and where cones are disjoint one divisor, or none
 use mathlib.Core.Path.{◌≡◌, refl, sym, ap, ◌∙◌, subst}
 use mathlib.Core.Bool.{Bool, true, false}
 use mathlib.Core.List.{List, [], ◌∷◌, map, Memᴰ}

@@ -1,12 +1,12 @@
 -- Examples A, B, D, F and G of the paper, of the rules themselves.
 --
---   example-A-find   no rows: find gives none in 0 steps
---   example-B-marks  row 0 0 has the marks 3
---   example-C-marks-in   row 3, n = 1, has one mark
---   example-D-marks-in   the completed rows of D have 1, 1 and 2 marks
---   example-D-marks, -complete   the completed rows 02, 12, 21 have the marks 2, 2, 3, and are complete
---   example-F-marks, -open       the rows of document 002's example have the marks 4, 4, 6, 6, 7, and are not complete
---   example-G-found, -none       find of 1 2 5 gives row 3 in 4 steps; of 2 0 1, none in 2 steps
+--   example_a_find   no rows: find gives none in 0 steps
+--   example_b_marks  row 0 0 has the marks 3
+--   example_c_marks_in   row 3, n = 1, has one mark
+--   example_d_marks_in   the completed rows of D have 1, 1 and 2 marks
+--   example_d_marks, -complete   the completed rows 02, 12, 21 have the marks 2, 2, 3, and are complete
+--   example_f_marks, -open       the rows of document 002's example have the marks 4, 4, 6, 6, 7, and are not complete
+--   example_g_found, -none       find of 1 2 5 gives row 3 in 4 steps; of 2 0 1, none in 2 steps
 use mathlib.Core.Path.{◌≡◌, refl}
 use mathlib.Core.Bool.{true, false}
 use mathlib.Core.List.{[], ◌∷◌}

@@ -1,15 +1,15 @@
 -- Laws of Janet's marks and cones (rules 2, 3 and 4): the tests agree with the rules, and the cones of different rows are disjoint.
 --
---   tests_same_before, tests-multiplicative, tests-janet, tests-covered, tests-complete   the tests agree with the rules
---   in_group, group-in     a row is in the list `group` exactly where it is in the group
---   multiplicative-same    marks depend on the exponents up to the variable alone
---   multiplicative-none    what is no variable of the rows is multiplicative
---   divisor-at, at_divisor   a divisor by its row, and by its row number
+--   tests_same_before, tests_multiplicative, tests_janet, tests_covered, tests_complete  the tests agree with the rules
+--   in_group, group_in     a row is in the list `group` exactly where it is in the group
+--   multiplicative_same    marks depend on the exponents up to the variable alone
+--   multiplicative_none    what is no variable of the rows is multiplicative
+--   divisor_at, at_divisor   a divisor by its row, and by its row number
 --   at_most_one            where cones are disjoint, a monomial has at most one divisor by row number
 --   largest                in the group of a Janet divisor of q, no exponent that q reaches is larger than the divisor's
---   same-prefix            Janet divisors of monomials that are equal before i are equal before i
+--   same_prefix            Janet divisors of monomials that are equal before i are equal before i
 --   unique                 Janet divisors of one monomial are equal
---   janet-disjoint         in a table of distinct rows Janet's cones are disjoint
+--   janet_disjoint         in a table of distinct rows Janet's cones are disjoint
 use mathlib.Core.Path.{◌≡◌, refl, sym, ◌∙◌, subst}
 use mathlib.Core.List.{[]}
 use mathlib.Core.Logic.{by_cases}

@@ -1,15 +1,15 @@
 -- Laws of marks as a byte (rule 2).
 --
---   marks-below            a byte of n variables is below 2 ^ n
---   marks-same             it depends on the marks of the variables 1 to n alone
---   marks-mod              its first bits are the marks of the first variables
---   marks-bit              bit i is the mark of variable i + 1
---   marks-behind           a byte with every mark behind a variable, and none there
---   marks-all              with every mark it is 2 ^ n − 1
---   marks-ones             the number of its bits is the number of marks
---   count_none, count-first   the number of marks, counted from the first variable
---   length_table_marks, table_marks_at, tests-marks   the marks of a table's rows
---   front-marks            those at the front of a buffer
+--   marks_below            a byte of n variables is below 2 ^ n
+--   marks_same             it depends on the marks of the variables 1 to n alone
+--   marks_mod              its first bits are the marks of the first variables
+--   marks_bit              bit i is the mark of variable i + 1
+--   marks_behind           a byte with every mark behind a variable, and none there
+--   marks_all              with every mark it is 2 ^ n − 1
+--   marks_ones             the number of its bits is the number of marks
+--   count_none, count_first   the number of marks, counted from the first variable
+--   length_table_marks, table_marks_at, tests_marks   the marks of a table's rows
+--   front_marks            those at the front of a buffer
 --   marks_of_below, marks_of_small   a row's byte is below 2 ^ n, and below 64
 --   marks_of_ones, marks_in_count   how many marks a row has: the bits of its byte, the variables that are multiplicative
 use mathlib.Core.Path.{◌≡◌, refl, sym, ap, ◌∙◌, subst}

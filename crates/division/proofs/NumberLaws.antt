@@ -1,13 +1,13 @@
 -- Laws of lists of numbers, for the exponents that a descent steps on.
 --
 --   Rising l               l ascends strictly: its first number is below all others, and so on
---   insert-in, -make, -rising      a number put into its place
---   distinct-in, -make, -rising    the distinct numbers of a list are those of the list, and they ascend strictly
---   keep-rising            what is kept of a rising list rises
---   LastIs, last-is        the last number of a rising list is its largest
---   rising-length          there are at most b − a numbers from a on and below b
---   map-in, map-make       membership in a mapped list
---   numbers-in, -make      the row numbers of a table
+--   insert_in, -make, -rising      a number put into its place
+--   distinct_in, -make, -rising    the distinct numbers of a list are those of the list, and they ascend strictly
+--   keep_rising            what is kept of a rising list rises
+--   LastIs, last_is        the last number of a rising list is its largest
+--   rising_length          there are at most b − a numbers from a on and below b
+--   map_in, map_make       membership in a mapped list
+--   numbers_in, -make      the row numbers of a table
 use mathlib.Core.Path.{◌≡◌, refl, sym, ap, subst}
 use mathlib.Core.Bool.{Bool, true, false}
 use mathlib.Core.List.Memᴰ

@@ -1,14 +1,14 @@
 -- Rule 6 over ascending rows: a group is a range of rows, and one step of the descent leaves a smaller range.
 --
---   distinct-parts   the distinct exponents of rows that share one, followed by rows that exceed it
---   descend-none     the descent ends with nothing where the least exponent exceeds q's
---   descend-next     it steps on the least exponent and goes on with the rows above it where one of them does not exceed q's
---   descend-gap      it ends with nothing where the last exponent stepped on is below q's and not the largest
---   descend-down     it takes the next variable where that exponent is q's or the largest
---   ascends-at       in a range that is equal before i the exponents at i ascend
---   range-above, range-shared   the rows above the least exponent, and those that have it, are such ranges again
---   range_none, range-next, range-gap, range-down   the four laws of the descent, of ranges
---   larger-unique    there is one first later row with a larger exponent
+--   distinct_parts   the distinct exponents of rows that share one, followed by rows that exceed it
+--   descend_none     the descent ends with nothing where the least exponent exceeds q's
+--   descend_next     it steps on the least exponent and goes on with the rows above it where one of them does not exceed q's
+--   descend_gap      it ends with nothing where the last exponent stepped on is below q's and not the largest
+--   descend_down     it takes the next variable where that exponent is q's or the largest
+--   ascends_at       in a range that is equal before i the exponents at i ascend
+--   range_above, range_shared   the rows above the least exponent, and those that have it, are such ranges again
+--   range_none, range_next, range_gap, range_down   the four laws of the descent, of ranges
+--   larger_unique    there is one first later row with a larger exponent
 --   found_some, found_none   what the code's answer says of the row number that was found
 use mathlib.Core.Path.{◌≡◌, refl, sym, ap, ◌∙◌, subst}
 use mathlib.Core.Bool.{Bool, true, false, ◌||◌}

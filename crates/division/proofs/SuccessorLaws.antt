@@ -1,10 +1,10 @@
 -- The marks of a row from those of the next row in the order of rows (rule 2).
 --
---   highest-marks          in a table in any order: a row that none comes after has all marks
---   next-behind, -at, -before   of a row with a next row in the order of rows: with k the first variable where they differ, it has all marks
+--   highest_marks          in a table in any order: a row that none comes after has all marks
+--   next_behind, -at, -before   of a row with a next row in the order of rows: with k the first variable where they differ, it has all marks
 --                          behind k, none at k, and before k those of the next row
---   marks-highest, marks-next   the same of the bytes
---   last-marks, marks-last, marks-successor   the same of an ascending table, whose next row stands next
+--   marks_highest, marks_next   the same of the bytes
+--   last_marks, marks_last, marks_successor   the same of an ascending table, whose next row stands next
 use mathlib.Core.Path.{◌≡◌, sym, ◌∙◌, subst}
 use mathlib.Core.Bool.{Bool, true, false}
 use mathlib.Core.List.{[]}

@@ -2,11 +2,11 @@
 --
 --   Descent          what a descent gives: the row number found, if there is one, the number of exponents stepped on,
 --                    and the variable at which it ended with nothing, 0 where a row was found
---   insert a l, first l, last l, numbers_from r k   a number put in its place; the first and the last of a list, if there is one; the k row numbers from r on
+--   insert a l, first l, last l, numbers_from r k  a number put in its place; the first and the last of a list, if there is one; the k row numbers from r on
 --   distinct l       the distinct numbers of l, ascending
 --   exponents G i g  the distinct exponents of the group g at variable i, ascending
---   stepped_on G q i g   those that do not exceed q's: the exponents stepped on
---   goes_on G q i g e   the last exponent stepped on, e, is q's, or the largest of the group
+--   stepped_on G q i g  those that do not exceed q's: the exponents stepped on
+--   goes_on G q i g e  the last exponent stepped on, e, is q's, or the largest of the group
 --   onward           the rest of the descent where it goes on, and its end with nothing where it does not
 --   descend          the descent from a variable on, in a group
 --   descent n G q    rule 6: variable by variable, from all rows

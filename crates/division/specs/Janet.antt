@@ -3,11 +3,11 @@
 --   InGroup G u i v  v is in the group of u at variable i: a row that equals u in variables 1 to i − 1
 --   group G u i      that group as a list
 --   Multiplicative   rule 2: Janet's marks
---   marks_byte n f    the byte in which variable i, of 1 to n, has the value 2 ^ (i − 1) where f holds of it
---   marks_count n f   how many of the variables 1 to n have a mark, f holding of those
---   marks_of n G u    rule 2: the marks of row u as a byte
---   marks_in n G u    how many marks row u has
---   table_marks n G   the marks of each row, in the order of the rows
+--   marks_byte n f   the byte in which variable i, of 1 to n, has the value 2 ^ (i − 1) where f holds of it
+--   marks_count n f  how many of the variables 1 to n have a mark, f holding of those
+--   marks_of n G u   rule 2: the marks of row u as a byte
+--   marks_in n G u   how many marks row u has
+--   table_marks n G  the marks of each row, in the order of the rows
 --   JanetDivisor     rule 3: u is a Janet divisor of q in G
 --   Complete         rule 4
 --

@@ -3,8 +3,8 @@
 --   range lo hi      the numbers of the rows from lo to before hi
 --   GroupRange G i lo hi   rows lo to before hi are some rows of G, all equal before variable i
 --   FirstLarger G i lo hi r   r is the first later row of the range with a larger exponent at i than row lo, or hi where there is none
---   with_steps s d    the descent d, with s steps taken before it
---   descend_from n G q i lo hi   rule 6 from variable i on, in the group of the rows lo to before hi
+--   with_steps s d   the descent d, with s steps taken before it
+--   descend_from n G q i lo hi  rule 6 from variable i on, in the group of the rows lo to before hi
 use Rattle.std.specs.Prelude.{List, ℕ, suc, ◌+◌, ◌-◌, ◌≤◌, ◌<◌, length}
 use Rattle.terms.specs.Monomials.{Monomial, Table, ◌!◌, row_at, SameBefore}
 use Rattle.division.specs.Descent.{Descent, numbers_from, descend}

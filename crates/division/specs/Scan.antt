@@ -4,8 +4,8 @@
 --   FirstDivisor M G q r   row number r is a divisor of q, and no earlier one is
 --   AnswersFirst M G q o   o is the first row number that is a divisor of q, or none where there is none
 --   scan G q         the first row number of a Janet divisor of q in G
---   found_test o      o is a row number, and not none
---   found_row o       o as the enum that code gives
+--   found_test o     o is a row number, and not none
+--   found_row o      o as the enum that code gives
 use Rattle.std.specs.Prelude.{Bool, true, false, [], ◌∷◌, ℕ, suc, ◌<◌}
 use Rattle.std.proofs.Math.Option.{Option, none, some}
 use Rattle.checks.specs.Tests.{pick}

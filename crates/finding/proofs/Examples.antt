@@ -1,7 +1,7 @@
 -- The order of the checks, by inputs that two of them refuse.
 --
 --   entry_first      an entry above 50 and a query of another length: 4, and not 5
---   length-first     a query of another length and rows that do not ascend: 5, and not 6
+--   length_first     a query of another length and rows that do not ascend: 5, and not 6
 use mathlib.Core.Path.{◌≡◌, refl}
 use mathlib.Core.List.{[], ◌∷◌}
 use Rattle.checks.specs.Refusals.{refusal}

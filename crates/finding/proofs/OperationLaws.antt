@@ -1,13 +1,13 @@
 -- Laws of what `find` promises.
 --
---   find-unique            two answers that the promise allows are equal
---   find-accepts           where no check refuses: what rule 6's descent gives
---   find-refuses           where one does: its number
---   find-finds             an accepted find answers with the Janet divisor's row number, or with none where there is none
---   find-steps             the steps are at most the degree of the query plus n
---   find-positive          the number of a refusal is above 0
---   refuses-length, refuses-order, refuses-none   the number of the first check that refuses, where the table's pass
---   find-ready, find-length   what is known of inputs that passed
+--   find_unique            two answers that the promise allows are equal
+--   find_accepts           where no check refuses: what rule 6's descent gives
+--   find_refuses           where one does: its number
+--   find_finds             an accepted find answers with the Janet divisor's row number, or with none where there is none
+--   find_steps_lem         the steps are at most the degree of the query plus n
+--   find_positive          the number of a refusal is above 0
+--   refuses_length, refuses_order, refuses_none   the number of the first check that refuses, where the table's pass
+--   find_ready, find_length   what is known of inputs that passed
 use mathlib.Core.Path.{◌≡◌, refl, sym, ap, ◌∙◌}
 use mathlib.Core.List.{List, [], ◌∷◌}
 use mathlib.Core.Option.{Option, none, some}

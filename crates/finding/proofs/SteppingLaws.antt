@@ -1,13 +1,13 @@
 -- Rule 6 as the code goes through it: the search for the next exponent, and the descent from where the code has come to.
 --
---   between-within   a bracket within a bracket
---   larger-found     the second of two neighbouring rows of a bracket is the first later row with a larger exponent
+--   between_within   a bracket within a bracket
+--   larger_found     the second of two neighbouring rows of a bracket is the first later row with a larger exponent
 --   read_at          the byte of a variable
---   reached-end, reached-none   the descent ends: with the row that is left, or with nothing at once
---   reached-above    what is known where the code goes on with the rows above
---   run-next     stepping along a variable comes to the next exponent
---   run-gap, run_down, run-shared   it ends with nothing, or calls for the next variable
---   ready-empty, descent-all, reached-start   the whole table
+--   reached_end, reached_none   the descent ends: with the row that is left, or with nothing at once
+--   reached_above    what is known where the code goes on with the rows above
+--   run_next     stepping along a variable comes to the next exponent
+--   run_gap, run_down, run_shared   it ends with nothing, or calls for the next variable
+--   ready_empty, descent_all, reached_start   the whole table
 use mathlib.Core.Path.{◌≡◌, sym, ◌∙◌, subst}
 use mathlib.Core.List.{[], ◌∷◌}
 use mathlib.Core.Option.{none, some}

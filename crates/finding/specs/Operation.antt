@@ -1,8 +1,8 @@
 -- What `find` promises.
 --
---   find_checks n table query   the checks in order: 1 to 4 of the table, 5, 6
+--   find_checks n table query  the checks in order: 1 to 4 of the table, 5, 6
 --   find_number, find_row, find_steps   the paper's number of an answer, 0 for none; the row number, if there is one; the steps. Beside a refusal none and 0
---   find_answer m row steps   the answer of that number, row and steps: the row or none with the steps, or the refusal
+--   find_answer m row steps  the answer of that number, row and steps: the row or none with the steps, or the refusal
 --   FindPromise n table query answer   the promise: the number is that of the first check that refuses, row and steps are what rule 6's
 --                    descent gives, and the answer is the one of that number, row and steps
 use Rattle.std.specs.Prelude.{◌≡◌, List, [], ◌∷◌, ◌++◌, ℕ}

@@ -1,8 +1,8 @@
 -- Inside by example: the order of the checks, and the first of two rows that divide.
 --
 --   entry_first      an entry above 50 and a query of another length: 4, and not 5
---   example-E        rows 1 0 and 1 0: 12 whatever the query, so before 5
---   first-of-two     rows 1 0 and 0 0 both divide 1 0: the first is given
+--   example_e        rows 1 0 and 1 0: 12 whatever the query, so before 5
+--   first_of_two     rows 1 0 and 0 0 both divide 1 0: the first is given
 use mathlib.Core.Path.{◌≡◌, refl}
 use mathlib.Core.List.{List, [], ◌∷◌}
 use Prim.Native.Nat.{ℕ}

@@ -1,9 +1,9 @@
 -- Laws of the first row that divides a query.
 --
---   first_stops, first-goes-on, first_past   the search for the first row that divides, from a row on
---   divides-first          first_dividing is the first row number whose row divides the query, none exactly where the query is outside the ideal
---   first-inside           where there is one the query is in the ideal
---   padded-divides, first-padded   a row, and a query, that is filled up to six exponents
+--   first_stops, first_goes_on, first_past   the search for the first row that divides, from a row on
+--   divides_first          first_dividing is the first row number whose row divides the query, none exactly where the query is outside the ideal
+--   first_inside           where there is one the query is in the ideal
+--   padded_divides, first_padded   a row, and a query, that is filled up to six exponents
 use mathlib.Core.Path.{◌≡◌, refl, sym, ◌∙◌, subst}
 use mathlib.Core.Bool.{Bool, true, false}
 use mathlib.Core.List.{[], ◌∷◌}

@@ -1,11 +1,11 @@
 -- Laws of the operation inside.
 --
---   inside-unique          two answers that the promise allows are equal
---   inside-accepts, inside-refuses   where no check refuses: the first row that divides; where one does: its number
---   inside-finds           what an accepted answer says
---   inside-positive        the number of a refusal is above 0
---   refuses-length, refuses-none   the number of the first check that refuses, where the table's pass
---   inside-passed, inside-length   what is known of inputs that passed
+--   inside_unique          two answers that the promise allows are equal
+--   inside_accepts, inside_refuses   where no check refuses: the first row that divides; where one does: its number
+--   inside_finds           what an accepted answer says
+--   inside_positive        the number of a refusal is above 0
+--   refuses_length, refuses_none   the number of the first check that refuses, where the table's pass
+--   inside_passed, inside_length   what is known of inputs that passed
 use mathlib.Core.Path.{◌≡◌, refl, sym, ap, ap₂, ◌∙◌}
 use mathlib.Core.List.{List, [], ◌∷◌}
 use mathlib.Core.Option.{Option, none, some}

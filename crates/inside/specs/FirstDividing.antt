@@ -1,6 +1,6 @@
 -- The first row that divides a query (rule 1).
 --
---   first_dividing G q   the number of the first row of G that divides q, or none
+--   first_dividing G q  the number of the first row of G that divides q, or none
 --   FirstDividing G q r   row number r divides q, and no earlier one does
 --   DividesFirst G q o    o is the first row number whose row divides q, or none where q is outside the ideal
 use Rattle.std.specs.Prelude.{[], ◌∷◌, ℕ, suc, ◌<◌, length}

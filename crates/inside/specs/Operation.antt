@@ -1,8 +1,8 @@
 -- What `inside` promises.
 --
---   inside_checks n table query   the checks in order: 1 to 4 and 12 of the table, 5
+--   inside_checks n table query  the checks in order: 1 to 4 and 12 of the table, 5
 --   inside_number, inside_row   the paper's number of an answer, 0 for none; the row number, if there is one. Beside a refusal none
---   inside_answer m row   the answer of that number and row: the row or none, or the refusal
+--   inside_answer m row  the answer of that number and row: the row or none, or the refusal
 --   InsidePromise n table query answer   the promise: the number is that of the first check that refuses, the row is the first that
 --                    divides the query, and the answer is the one of that number and row
 use Rattle.std.specs.Prelude.{◌≡◌, List, [], ◌∷◌, ◌++◌, ℕ}

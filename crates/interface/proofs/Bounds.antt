@@ -1,11 +1,11 @@
 -- The answers are small, so that each fits the number in which it is handed out.
 --
---   row_small, inside-small   a row number that find or inside gives is below 4,096
+--   row_small, inside_small   a row number that find or inside gives is below 4,096
 --   count_small     there are at most 4,096 completed rows
---   steps-small     steps are at most 256 for each variable
---   steady-small    a steady degree is at most 300
---   located-small   n, row count and place of an opened table are below 65,536
---   length-small    a written bundle has at most 65,535 bytes
+--   steps_small     steps are at most 256 for each variable
+--   steady_small    a steady degree is at most 300
+--   located_small   n, row count and place of an opened table are below 65,536
+--   length_small    a written bundle has at most 65,535 bytes
 use mathlib.Core.Path.{◌≡◌, sym, ap, ◌∙◌, subst}
 use mathlib.Core.List.{List}
 use mathlib.Core.Logic.{by_cases}

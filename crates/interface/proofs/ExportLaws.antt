@@ -1,6 +1,6 @@
 -- What an exported function hands out is what the answer of its operation says.
 --
---   marks-out, inside-out, complete-out, find-out, count-out, polynomial-out, steady-out, write-out
+--   marks_out, inside_out_lem, complete_out, find_out, count_out, polynomial_out, steady_out, write_out
 --                  the promise of the export, from that of the operation's answer and from what this answer is
 use mathlib.Core.Path.{◌≡◌, sym, ap}
 use mathlib.Core.List.{List}

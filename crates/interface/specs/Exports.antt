@@ -1,6 +1,6 @@
 -- What the exported functions promise: the operation's own promise, with its answer as the numbers that C sees.
 --
---   inside_out, row_out     the row number out for each case of an answer: 65,535 for no row, 0 beside a refusal
+--   inside_out, row_out   the row number out for each case of an answer: 65,535 for no row, 0 beside a refusal
 --   MarksExport n table buffer number after, InsideExport n table query number row,
 --   FindExport n table query number row steps   some answer keeps the operation's promise, and the numbers are those of that answer
 --   CompleteExport, CountExport, PolynomialExport, SteadyExport, OpenExport, WriteExport   likewise

@@ -1,7 +1,7 @@
 -- How long the text of a table can be.
 --
---   row_line_bound          the line of a row with at most 6 exponents, none above 50, has at most 23 bytes
---   text-bound             the text of a table that passed the checks 1 to 4 has at most text_size bytes
+--   row_line_bound         the line of a row with at most 6 exponents, none above 50, has at most 23 bytes
+--   text_bound             the text of a table that passed the checks 1 to 4 has at most text_size bytes
 use mathlib.Core.Path.{◌≡◌, sym}
 use mathlib.Core.List.{List, [], ◌∷◌, ◌++◌, append_assoc}
 use mathlib.Core.Logic.{by_cases}

@@ -1,10 +1,10 @@
 -- The paper's listing, byte for byte, and the smallest outputs.
 --
 --   listing                the five lines for the paper's ten bytes
---   listing-two            a bundle of two tables
---   listing-empty-input    no bytes: `R 9`
---   listing-empty-table    a table without rows: `T 0 0 0` and `S 0`
---   listing-equal-rows     a table with the rows 1 0 and 1 0: `R 12`
+--   listing_two            a bundle of two tables
+--   listing_empty_input    no bytes: `R 9`
+--   listing_empty_table    a table without rows: `T 0 0 0` and `S 0`
+--   listing_equal_rows     a table with the rows 1 0 and 1 0: `R 12`
 use mathlib.Core.Path.{◌≡◌, refl}
 use mathlib.Core.List.{List, [], ◌∷◌, ◌++◌}
 use Prim.Native.Nat.{ℕ}

@@ -1,13 +1,13 @@
 -- Laws of the output part by part.
 --
---   part-refused, part-silent, part_none   what is written of a refused bundle, and where there is no table j
---   refusal_line_bound      the line of a refusal has room
+--   part_refused, part_silent, part_none   what is written of a refused bundle, and where there is no table j
+--   refusal_line_bound     the line of a refusal has room
 --   Found b j f t          what is known of the bytes t of table j of an accepted bundle, found by `locate`
---   table-part             part j of an accepted bundle is the text of its table j
---   part-found             it is known of each table that is found
---   part-written           a text written from the start that is part j keeps the promise
---   part-unique, part-front   the promise allows one result, and the front of the buffer is the part
---   bundle-parts           the whole output is its 16 parts, one behind the other
+--   table_part             part j of an accepted bundle is the text of its table j
+--   part_found             it is known of each table that is found
+--   part_written           a text written from the start that is part j keeps the promise
+--   part_unique, part_front   the promise allows one result, and the front of the buffer is the part
+--   bundle_parts           the whole output is its 16 parts, one behind the other
 use mathlib.Core.Path.{◌≡◌, refl, sym, ap, ◌∙◌}
 use mathlib.Core.List.{List, [], ◌++◌, append-nil}
 use mathlib.Core.Logic.{by_cases}

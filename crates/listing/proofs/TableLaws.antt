@@ -1,9 +1,9 @@
 -- Laws of the text of a table as it is made: from the marks in a buffer, and from what `complete` answers.
 --
---   marked-length          marks at the front of a buffer serve as the marks of the rows
---   completed-ascends, completed-lines   bytes that are the completed table of given rows: they ascend, and their lines are the text of the given table
+--   marked_length          marks at the front of a buffer serve as the marks of the rows
+--   completed_ascends, completed_lines   bytes that are the completed table of given rows: they ascend, and their lines are the text of the given table
 --   Made n table k after   what stands in a buffer after k completed rows were written into it
---   made-rows              an accepted completion
+--   made_rows              an accepted completion
 --   made_none              a completion into 4,096 rows that is refused, of a table that passed the checks 1 to 4
 use mathlib.Core.Path.{◌≡◌, refl, sym, ap, ◌∙◌, subst}
 use mathlib.Core.List.{List, ◌++◌}

@@ -1,8 +1,8 @@
 -- Laws of lines as text.
 --
---   table_line_parts ..     each line as it is written, part by part; table_line_length ..: how long it is
---   spaced-next, -part, -fits   the exponents of a row, one after the other
---   row_lines_next, -part, -fits   the lines of the rows, one after the other
+--   table_line_parts ..    each line as it is written, part by part; table_line_length ..: how long it is
+--   spaced_next, -part, -fits   the exponents of a row, one after the other
+--   row_lines_next, -part, -fits  the lines of the rows, one after the other
 use mathlib.Core.Path.{◌≡◌, refl, sym, ap, ◌∙◌}
 use mathlib.Core.List.{List, [], ◌∷◌, ◌++◌, map, append_assoc}
 use mathlib.Core.Logic.{⊎_elim}

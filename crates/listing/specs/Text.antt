@@ -1,18 +1,18 @@
 -- The text that the program writes, as bytes.
 --
 --   table_line, row_line, steady_line   the lines of a table: `T` and its numbers, a completed row with its marks, `S` and the steady degree
---   no_room_line j     the only line of a table whose completion into 4,096 rows is refused
---   refusal_line m    the only line of a refused bundle
+--   no_room_line j   the only line of a table whose completion into 4,096 rows is refused
+--   refusal_line m   the only line of a refused bundle
 --   spaced u         the exponents of u, each with one space behind it
---   row_lines H marks k   the lines of the first k rows of H, the marks of row r standing at r
---   whole_text        the lines of a table, from its completed table, its marks and a steady degree
---   completed_text n j given H   the lines of table j with so many given rows, whose completed table is H
---   table_text n j G  the text of table j, whose given rows are G
---   tables_text b j m   the texts of the tables j to j + m − 1 of the bundle b
---   bundle_text b     the whole output for the bundle b
---   part_text b j     its part j: what is written of table j, and of a refused bundle the whole in part 0
---   parts_text b j m  the parts j to j + m − 1
---   text_size         the most bytes of a table's text: 4,096 rows of at most 23 bytes, a first line of at most 15 and a last one of at most 6
+--   row_lines H marks k  the lines of the first k rows of H, the marks of row r standing at r
+--   whole_text       the lines of a table, from its completed table, its marks and a steady degree
+--   completed_text n j given H  the lines of table j with so many given rows, whose completed table is H
+--   table_text n j G   the text of table j, whose given rows are G
+--   tables_text b j m  the texts of the tables j to j + m − 1 of the bundle b
+--   bundle_text b    the whole output for the bundle b
+--   part_text b j    its part j: what is written of table j, and of a refused bundle the whole in part 0
+--   parts_text b j m   the parts j to j + m − 1
+--   text_size        the most bytes of a table's text: 4,096 rows of at most 23 bytes, a first line of at most 15 and a last one of at most 6
 use Rattle.std.specs.Prelude.{List, [], ◌∷◌, ◌++◌, map, ℕ, zero, suc, ◌+◌, ◌*◌, ltb, eqb, length, get_or}
 use Rattle.checks.specs.Tests.{pick}
 use Rattle.terms.specs.Monomials.{Monomial, Table, row_at}

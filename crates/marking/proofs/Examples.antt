@@ -1,7 +1,7 @@
 -- The order of the checks, by an input that two of them refuse.
 --
 --   entry_first      an entry above 50 and a buffer shorter than the rows: 4, and not 8
---   example-E        rows 1 0 and 1 0: 12 whatever the buffer, so before 8
+--   example_e        rows 1 0 and 1 0: 12 whatever the buffer, so before 8
 use mathlib.Core.Path.{◌≡◌, refl}
 use mathlib.Core.List.{[], ◌∷◌}
 use Prim.Native.Nat.{ℕ}

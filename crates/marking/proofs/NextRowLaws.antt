@@ -1,11 +1,11 @@
 -- Laws of the marks of a row from those of the next.
 --
---   power_small, power-double, all-shifted   the powers that the code meets are small
---   kept-marks, kept_small   what the code computes from the next row's marks
---   row-length, differs-within, differs-less, first-differing  the two rows up to their first difference, and there
+--   power_small, power_double, all_shifted   the powers that the code meets are small
+--   kept_marks, kept_small   what the code computes from the next row's marks
+--   row_length, differs_within, differs_less, first_differing  the two rows up to their first difference, and there
 --   next_marks             what the code gives are the marks, where no row stands between the two
---   own-exponent, next-exponent, next-asks, next-gives   two rows as the code holds them
---   carried-asks, carried-marks   the same in a walk over an ascending table, which carries the next row along
+--   own_exponent, next_exponent, next_asks, next_gives   two rows as the code holds them
+--   carried_asks, carried_marks   the same in a walk over an ascending table, which carries the next row along
 use mathlib.Core.Path.{◌≡◌, sym, ap, ◌∙◌}
 use mathlib.Core.List.{List}
 use mathlib.Core.Logic.{by_cases}

@@ -1,10 +1,10 @@
 -- Laws of the operation marks.
 --
---   marks-unique           two results that the promise allows are equal
---   marks-accepts, marks-refuses   where no check refuses: the marks; where one does: its number, and the buffer as it was
---   refuses-table, refuses-rows    the number by which the table is refused: by 1 to 4, or where these pass by 12
---   refuses-buffer, refuses-none   the number of the first check that refuses, where the table's pass
---   marks-passed           what is known of inputs that passed
+--   marks_unique           two results that the promise allows are equal
+--   marks_accepts, marks_refuses   where no check refuses: the marks; where one does: its number, and the buffer as it was
+--   refuses_table, refuses_rows    the number by which the table is refused: by 1 to 4, or where these pass by 12
+--   refuses_buffer, refuses_none   the number of the first check that refuses, where the table's pass
+--   marks_passed           what is known of inputs that passed
 --   markable               what the marking asks
 use mathlib.Core.Path.{◌≡◌, refl, sym, ap, ◌∙◌}
 use mathlib.Core.List.{List, [], ◌∷◌}

@@ -1,9 +1,9 @@
 -- Marks written into a buffer, row after row.
 --
 --   from, from_last, from_step, from_all, length_from   a buffer that is written from its last row on to the first
---   none-marked            without rows nothing is written
+--   none_marked            without rows nothing is written
 --   Written                a buffer in which the rows listed from a place on are marked
---   last-listed, listed-marks, before-listed   the marks of the row at the last place, of the one before a place, and that it precedes it
+--   last_listed, listed_marks, before_listed   the marks of the row at the last place, of the one before a place, and that it precedes it
 --   written_last, written_step, written_all    the turns of `mark_listed`
 use mathlib.Core.Path.{◌≡◌, refl, sym, ap, ◌∙◌, subst}
 use mathlib.Core.List.{List, [], ◌∷◌, ◌++◌}

@@ -1,11 +1,11 @@
 -- The operation marks (rule 2).
 --
 --   BufferShort n table size   8: the buffer, of that size, is shorter than the rows
---   marks_checks n table size   the checks in order: 1 to 4 and 12 of the table, 8
+--   marks_checks n table size  the checks in order: 1 to 4 and 12 of the table, 8
 --   Markable n G size     what is known once they pass
 --   marked n G buffer     the buffer with the marks of G's rows at its front; the bytes behind stay
---   marks_number      the paper's number of an answer, 0 for none
---   marks_answer m    the answer of that number: done, or the refusal
+--   marks_number     the paper's number of an answer, 0 for none
+--   marks_answer m   the answer of that number: done, or the refusal
 --   MarksPromise n table buffer answer after   the promise: the number is that of the first check that refuses, the answer is the one of
 --                    that number, and the buffer is marked, or on refusal as it was
 use Rattle.std.specs.Prelude.{◌≡◌, List, [], ◌∷◌, ◌++◌, ℕ, ◌≤◌, ◌<◌, ltb, length, drop}

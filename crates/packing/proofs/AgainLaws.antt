@@ -1,8 +1,8 @@
 -- What is read is written again.
 --
---   sized-read             the tables of a bundle have rows of n exponents
---   given-same             a bundle that the reader accepts, taken apart into row counts and bodies, is the bundle of these
---   again-writable         the writer accepts what it was taken apart into, where the buffer holds it
+--   sized_read             the tables of a bundle have rows of n exponents
+--   given_same             a bundle that the reader accepts, taken apart into row counts and bodies, is the bundle of these
+--   again_writable         the writer accepts what it was taken apart into, where the buffer holds it
 use mathlib.Core.Path.{◌≡◌, sym, ap, ◌∙◌, subst}
 use mathlib.Core.List.Memᴰ
 use mathlib.Core.List.{List, Memᴰ}

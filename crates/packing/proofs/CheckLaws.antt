@@ -1,11 +1,11 @@
 -- Laws of the writer's checks.
 --
---   Shaped, shaped, shaped-accepts, accepts-shape   what is known of inputs that pass 1, 9, 2 and 3, and that this is enough to pass them
---   demanded-fits          the bytes that the sum of the counts demands, before any count is known to be small
---   shaped-size            their bytes are at most 16 times 4,096 rows of 6
---   shape_one, shape-nine, shape_two, shape-three, shape-passes   the first of these checks that refuses, and that none does
---   write-four, write-twelve, write-eight, write-passes   what 4, 12 and 8 decide behind them. The size that the code adds up is the bundle's length
---   Writable, writable, writable-passes   what is known of inputs that the writer accepts, and that this is enough
+--   Shaped, shaped, shaped_accepts, accepts_shape   what is known of inputs that pass 1, 9, 2 and 3, and that this is enough to pass them
+--   demanded_fits          the bytes that the sum of the counts demands, before any count is known to be small
+--   shaped_size            their bytes are at most 16 times 4,096 rows of 6
+--   shape_one, shape_nine, shape_two, shape_three, shape_passes   the first of these checks that refuses, and that none does
+--   write_four, write_twelve, write_eight, write_passes   what 4, 12 and 8 decide behind them. The size that the code adds up is the bundle's length
+--   Writable, writable, writable_passes   what is known of inputs that the writer accepts, and that this is enough
 use mathlib.Core.Path.{◌≡◌, refl, sym, ◌∙◌}
 use mathlib.Core.Bool.{true, false}
 use mathlib.Core.List.{List, [], ◌∷◌, Memᴰ}

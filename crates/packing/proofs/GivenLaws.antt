@@ -1,12 +1,12 @@
 -- The tables that row counts and bytes are, and the bytes of their bundle.
 --
---   length-given, counts-given, sized-given   how many tables there are, their row counts, and that each row has n exponents
---   given-at               table j: the rows behind those of the tables before it
---   given-again            the bodies of tables, cut by the tables' row counts, are the tables
---   bodies-given           the bodies of the given tables, end to end, are the bytes given
---   total-bodies           the bodies of tables have n bytes for each row
---   length-counts, length-entries, length-bundle   how many row counts there are, and the lengths of entries and of a bundle
---   bundle-bytes, length_given_bundle   the bytes of the bundle of given tables, and its length
+--   length_given, counts_given, sized_given   how many tables there are, their row counts, and that each row has n exponents
+--   given_at               table j: the rows behind those of the tables before it
+--   given_again            the bodies of tables, cut by the tables' row counts, are the tables
+--   bodies_given           the bodies of the given tables, end to end, are the bytes given
+--   total_bodies           the bodies of tables have n bytes for each row
+--   length_counts, length_entries, length_bundle   how many row counts there are, and the lengths of entries and of a bundle
+--   bundle_bytes, length_given_bundle  the bytes of the bundle of given tables, and its length
 use mathlib.Core.Path.{◌≡◌, refl, sym, ap, ◌∙◌, subst}
 use mathlib.Core.List.Memᴰ
 use mathlib.Core.List.{List, [], ◌∷◌, ◌++◌, Memᴰ}

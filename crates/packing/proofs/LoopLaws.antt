@@ -1,10 +1,10 @@
 -- What the writer's loops have done so far, and the whole bundle from its parts.
 --
---   large-here, large-later   a search for a count above 4,096: it ends here, or goes on behind
---   total-next             the rows from table j on
---   Summed, summed-none, summed-more, summed-all   the sum of the first j counts. Each is below 65,536, so the sum is bounded
---   body-fits              the bytes of a table whose row count is a 16-bit number
---   Entered, entered-none, entered-more, entered_all   the entries of the first j tables are written, and the next body's place is known
+--   large_here, large_later   a search for a count above 4,096: it ends here, or goes on behind
+--   total_next             the rows from table j on
+--   Summed, summed_none, summed_more, summed_all   the sum of the first j counts. Each is below 65,536, so the sum is bounded
+--   body_fits              the bytes of a table whose row count is a 16-bit number
+--   Entered, entered_none, entered_more, entered_all   the entries of the first j tables are written, and the next body's place is known
 --   bundle_written         n, the number of tables, the entries and the bodies, one behind the other, are the bundle at the buffer's front
 use mathlib.Core.Path.{◌≡◌, refl, sym, ap, ◌∙◌}
 use mathlib.Core.Bool.{true}

@@ -1,11 +1,11 @@
 -- Laws of what `write_bundle` promises.
 --
---   write-unique           two results that the promise allows are equal
---   write-accepts          where no check refuses: the bundle's length, the bundle at the front, and the bytes behind it
---   write-refuses          where one does: its number, and the buffer as it was
---   write-size, write-written, write-front, write-behind   an accepted result: its length, the buffer, the bundle, the bytes behind it
---   write-bound            a length is at most 65,535
---   write-positive         the number of a refusal is above 0
+--   write_unique           two results that the promise allows are equal
+--   write_accepts          where no check refuses: the bundle's length, the bundle at the front, and the bytes behind it
+--   write_refuses          where one does: its number, and the buffer as it was
+--   write_size, write_written, write_front, write_behind   an accepted result: its length, the buffer, the bundle, the bytes behind it
+--   write_bound            a length is at most 65,535
+--   write_positive         the number of a refusal is above 0
 use mathlib.Core.Path.{◌≡◌, refl, sym, ap₂, ◌∙◌}
 use mathlib.Core.List.{List}
 use Prim.Native.Nat.{ℕ, zero, suc, ◌≤◌, ◌<◌}

@@ -1,9 +1,9 @@
 -- What is written is read.
 --
---   Read, read-from        tables whose entries and bodies stand in a bundle are the tables read from it
---   Packable, Opens, bundle-opens   the bundle of tables is accepted, and its n and its tables are those given
---   opens_at, opens-count, opens-body   table j of it, its row count and its body
---   written-opens          so is what the writer makes of inputs that it accepts
+--   Read, read_from        tables whose entries and bodies stand in a bundle are the tables read from it
+--   Packable, Opens, bundle_opens   the bundle of tables is accepted, and its n and its tables are those given
+--   opens_at, opens_count, opens_body   table j of it, its row count and its body
+--   written_opens          so is what the writer makes of inputs that it accepts
 use mathlib.Core.Path.{◌≡◌, refl, sym, ap, ◌∙◌, subst}
 use mathlib.Core.List.Memᴰ
 use mathlib.Core.List.{List, [], ◌∷◌, ◌++◌, Memᴰ}

@@ -1,9 +1,9 @@
 -- A search through the tables given for one with equal rows: those from table j on decide, and their rows stand from a place on.
 --
 --   Looked                 so far no table has equal rows
---   looked-none, looked-more   before the first table, and one more
---   looked-found, looked-all   a table is found, and none is
---   part-table, part-within, part-accepted   the bytes of the next table: its rows, that they are there, and that they pass the checks 1 to 4
+--   looked_none, looked_more   before the first table, and one more
+--   looked_found, looked_all   a table is found, and none is
+--   part_table, part_within, part_accepted   the bytes of the next table: its rows, that they are there, and that they pass the checks 1 to 4
 use mathlib.Core.Path.{◌≡◌, refl, sym, ap, ◌∙◌}
 use mathlib.Core.Bool.{Bool, true, false, ◌||◌}
 use mathlib.Core.List.{List, ◌∷◌}

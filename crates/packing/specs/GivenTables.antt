@@ -1,8 +1,8 @@
 -- Tables given as row counts and bytes: one number a table, and the rows of all tables end to end.
 --
---   total_rows counts               the sum of the row counts
---   given_tables n counts tables    the tables: as many rows of n bytes as the first count says, then the others
---   given_bundle n counts tables    their bundle, in the format that the reader reads
+--   total_rows counts              the sum of the row counts
+--   given_tables n counts tables   the tables: as many rows of n bytes as the first count says, then the others
+--   given_bundle n counts tables   their bundle, in the format that the reader reads
 use Rattle.std.specs.Prelude.{List, [], ◌∷◌, ℕ, ◌+◌, ◌*◌, drop}
 use Rattle.terms.specs.Monomials.{Table}
 use Rattle.terms.specs.Rows.{first_rows}

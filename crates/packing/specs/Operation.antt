@@ -5,12 +5,12 @@
 --   CountAbove4096 counts          3: a count above 4,096
 --   GivenEqualRows n counts tables   12: two equal rows in a table given
 --   NoRoom size room               8: a bundle of that size is longer than the room, or than 65,535 bytes
---   shape_checks n counts tables    the checks 1, 9, 2, 3, in order: of n, the counts and the tables' length
---   content_checks n counts tables room   the checks 4, 12 and 8: of the entries, the rows and the bundle's length
---   write_checks n counts tables room   the checks in order: 1, 9, 2, 3, 4, 12, 8. The room is the length of the lent buffer
---   write_number, write_length       the paper's number of an answer, 0 for none, and the bundle's length, 0 beside a refusal
---   write_answer m k                the answer of that number and length: the length, or the refusal
---   written_buffer n counts tables buffer   the buffer with the bundle at its front; the bytes behind it stay
+--   shape_checks n counts tables   the checks 1, 9, 2, 3, in order: of n, the counts and the tables' length
+--   content_checks n counts tables room  the checks 4, 12 and 8: of the entries, the rows and the bundle's length
+--   write_checks n counts tables room  the checks in order: 1, 9, 2, 3, 4, 12, 8. The room is the length of the lent buffer
+--   write_number, write_length     the paper's number of an answer, 0 for none, and the bundle's length, 0 beside a refusal
+--   write_answer m k               the answer of that number and length: the length, or the refusal
+--   written_buffer n counts tables buffer  the buffer with the bundle at its front; the bytes behind it stay
 --   WritePromise n counts tables buffer answer after   the promise: the number is that of the first check that refuses, the length that of the
 --                                  bundle, the answer the one of both, and the buffer has the bundle, or on refusal is as it was
 --   EntriesFit n counts buffer     the header fits the buffer, and each place that stands in it is a 16-bit number
@@ -22,7 +22,8 @@ use Rattle.checks.specs.Refusals.{Check, refusal, check, answered, numbered}
 use Rattle.checks.proofs.TestLaws.{tests_le, tests_lt, tests_eq, tests_and, tests_or, tests_not, tests_any}
 use Rattle.terms.specs.TableChecks.{tests_not_one_to_six, tests_entry_above50}
 use Rattle.terms.specs.Monomials.{Table, EqualRows}
-use Rattle.distinct.specs.EqualRows.{equal_rows_test, tests_equal_rows}
+use Rattle.distinct.specs.EqualRows.{equal_rows_test}
+use Rattle.distinct.proofs.TestLaws.{tests_equal_rows}
 use Rattle.packing.specs.GivenTables.{total_rows, given_tables, given_bundle}
 use Rattle.packing.specs.declared.WriteAnswer.{WriteAnswer}
 use Rattle.packing.specs.declared.WriteAnswer.TheVariants.{Length, Refused}

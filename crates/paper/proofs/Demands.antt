@@ -1,7 +1,7 @@
 -- The three demands hold.
 --
 --   settled       a number that is the refusal of a list of checks settles the list
---   demand-one, demand-two, demand-three
+--   demand_one, demand_two, demand_three
 use mathlib.Core.Path.{◌≡◌, sym, ap, ◌∙◌, subst}
 use mathlib.Core.List.{List, [], ◌∷◌, ◌++◌}
 use mathlib.Core.Logic.{by_cases, ◌↔◌}

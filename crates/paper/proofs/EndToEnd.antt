@@ -1,7 +1,7 @@
 -- What the third demand needs to go from the given rows to the count.
 --
---   outside-ideal     two tables of one ideal have the same number of monomials outside
---   flat-accepted     a table within the limits is within them as bytes
+--   outside_ideal     two tables of one ideal have the same number of monomials outside
+--   flat_accepted     a table within the limits is within them as bytes
 use mathlib.Core.Path.{refl, sym, ap, ◌∙◌}
 use mathlib.Core.List.Memᴰ
 use mathlib.Core.List.{[], ◌∷◌, Memᴰ}

@@ -1,6 +1,6 @@
 -- The paper's starred examples hold: each is computed in the crate of its rule, and gathered here.
 --
---   starred-examples
+--   starred_examples
 use mathlib.Core.Path.{◌≡◌, refl}
 use mathlib.Core.List.{[], ◌∷◌}
 use Prim.Native.Nat.{ℕ}

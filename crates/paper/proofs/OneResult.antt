@@ -1,6 +1,6 @@
 -- Each promise allows one result, and so does each exported function's: its numbers are those of the one answer.
 --
---   one-result, one-export
+--   one_result, one_export
 use mathlib.Core.Path.{◌≡◌, sym, ap, ◌∙◌}
 use Rattle.marking.specs.Operation.{marks_number}
 use Rattle.inside.specs.Operation.{inside_number}

@@ -1,6 +1,6 @@
 -- What goes out is what the rules say: values, exported numbers, the listing.
 --
---   value-demand, export-demand, row-demand, listing-demand
+--   value_demand, export_demand, row_demand, listing_demand
 use mathlib.Core.Path.{◌≡◌, refl, sym, ap, ◌∙◌, subst}
 use mathlib.Core.List.Memᴰ
 use mathlib.Core.List.{List}

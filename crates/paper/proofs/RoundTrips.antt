@@ -1,6 +1,6 @@
 -- What is written is opened, and what is accepted is written again.
 --
---   round-trips
+--   round_trips
 use mathlib.Core.Path.{◌≡◌, refl, sym, ap, ◌∙◌, subst}
 use mathlib.Core.List.{List, [], ◌++◌}
 use Prim.Native.Nat.{ℕ, ◌*◌, ◌≤◌, ◌<◌}

@@ -1,9 +1,9 @@
 -- The recursion at one variable: what `last_variable` and `append_completed` have written, and that all fits.
 --
---   last-wide, last_none, last-full, last_one   one variable: the bytes that are read, no rows, no room, the least exponent
---   append-start, append-full, append-done   the walk before the first head, without room, past the last head
---   table-wide, tails-wide, roomy-as, next-roomy   room for the table, for its tails, with other contents, for the next variable
---   appended-above, lent-all, lent_length, walk-last   small facts of ends, of a lent part, of the last growing head
+--   last_wide, last_none, last_full, last_one   one variable: the bytes that are read, no rows, no room, the least exponent
+--   append_start, append_full, append_done   the walk before the first head, without room, past the last head
+--   table_wide, tails_wide, roomy_as, next_roomy   room for the table, for its tails, with other contents, for the next variable
+--   appended_above, lent_all, lent_length, walk_last   small facts of ends, of a lent part, of the last growing head
 use mathlib.Core.Path.{◌≡◌, refl, sym, ap, ◌∙◌}
 use mathlib.Core.Bool.{Bool, true, false}
 use mathlib.Core.List.{List, [], ◌∷◌, ◌++◌, append-nil}

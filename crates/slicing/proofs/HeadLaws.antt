@@ -1,9 +1,9 @@
 -- One head: what `take_head` has written.
 --
---   HeadRoom, head-room    the sizes that it counts on
---   head-stays             the tails add nothing
---   head-full              no room for the block repeated
---   head-closes            the block of the head is written, or had no room
+--   HeadRoom, head_room    the sizes that it counts on
+--   head_stays             the tails add nothing
+--   head_full              no room for the block repeated
+--   head_closes            the block of the head is written, or had no room
 use mathlib.Core.Path.{◌≡◌, sym, ap, ◌∙◌, subst}
 use mathlib.Core.Bool.{Bool, true, false}
 use mathlib.Core.List.Memᴰ

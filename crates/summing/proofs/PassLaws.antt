@@ -1,19 +1,19 @@
 -- What the passes over the rows need, over plain lists and numbers.
 --
---   size-near, size_none, size-far, share-near   the size of a share, by its cases
---   known-none, known-set, known_at   the sizes that were asked before
---   share-small      no share exceeds the largest binomial
---   shares-next, shares-done, shares-marked   the sum of shares from a row on, at the end, and with Janet's marks
---   signed-next, signed-done, signed-marked   the same with signs
---   SummedRow, summed-row   what is known of a row in the loops over the rows
+--   size_near, size_none, size_far, share_near   the size of a share, by its cases
+--   known_none, known_set, known_at   the sizes that were asked before
+--   share_small      no share exceeds the largest binomial
+--   shares_next, shares_done, shares_marked   the sum of shares from a row on, at the end, and with Janet's marks
+--   signed_next, signed_done, signed_marked   the same with signs
+--   SummedRow, summed_row   what is known of a row in the loops over the rows
 --   splits-..        what a share with a sign is, in each of its cases
---   splits-add       sums of differences
---   polynomial-split   the polynomial as one difference
---   marked-front     a buffer whose front holds the marks is marked
+--   splits_add       sums of differences
+--   polynomial_split   the polynomial as one difference
+--   marked_front     a buffer whose front holds the marks is marked
 --   summable         a checked and marked table can be summed
---   count-sum, polynomial-sum   what the sums over a checked and marked table are
---   small-fits, abs-difference  when a difference fits an i64
---   steady-next, steady-done   the largest degree from a row on
+--   count_sum, polynomial_sum   what the sums over a checked and marked table are
+--   small_fits, abs_difference  when a difference fits an i64
+--   steady_next, steady_done   the largest degree from a row on
 use mathlib.Core.Path.{◌≡◌, refl, sym, ap, ap₂, ◌∙◌}
 use mathlib.Core.Bool.{true, false, not}
 use mathlib.Core.List.{List, [], ◌∷◌, ◌++◌}

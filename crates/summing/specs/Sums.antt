@@ -1,9 +1,9 @@
 -- The sums over the rows of a table whose marks stand beside it as bytes: what the passes over the rows make, whatever the marks are.
 --
---   shares_of s G marks   the shares of the rows of G at s, row r with the marks of byte r
+--   shares_of s G marks  the shares of the rows of G at s, row r with the marks of byte r
 --   signed_shares_of s G marks   the same with rule 8's shares
 --   Summable n table marks s   what a pass over the rows asks: the table's limits, s, and a byte of at most six marks a row
---   share_size s d m  the size of rule 8's share, whatever its sign
+--   share_size s d m   the size of rule 8's share, whatever its sign
 --   Known s known    what stands in `known`: at d * 7 + m that size, or 0
 --   Splits c z plus minus   z is plus less minus, and neither exceeds c times the largest binomial
 --   SplitsAll n table marks s plus minus   the sum over all rows is such a difference

@@ -1,7 +1,7 @@
 -- The order of the checks 1 to 4, by tables that two of them refuse.
 --
---   variables-first  n is 7, and an entry is above 50: 1, and not 4
---   length-first     one byte for n = 2, and it is above 50: 2, and not 4
+--   variables_first  n is 7, and an entry is above 50: 1, and not 4
+--   length_first     one byte for n = 2, and it is above 50: 2, and not 4
 use mathlib.Core.Path.{◌≡◌, refl}
 use mathlib.Core.List.{[], ◌∷◌}
 use Rattle.terms.specs.Rows.{rows}

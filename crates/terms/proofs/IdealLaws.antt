@@ -1,12 +1,12 @@
 -- Laws of rule 1: its tests decide it; divisibility is an order, and the ideal is kept by raising.
 --
---   tests-divides, tests-inside   the tests agree with the rule
---   divides-refl, divides-trans   divisibility is reflexive and transitive
---   inside-up              what a monomial of the ideal divides is in the ideal
---   inside-none            an empty table has an empty ideal
---   inside-zeros           a row of zeros gives every monomial
---   same-ideal-refl, -sym, -trans, same-ideal-rows
---   failure-divides, failure-unique   a first failure is 0 exactly where u divides q, and there is one only
+--   tests_divides, tests_inside   the tests agree with the rule
+--   divides_refl, divides_trans   divisibility is reflexive and transitive
+--   inside_up              what a monomial of the ideal divides is in the ideal
+--   inside_none            an empty table has an empty ideal
+--   inside_zeros           a row of zeros gives every monomial
+--   same_ideal_refl, -sym, -trans, same_ideal_rows
+--   failure_divides, failure_unique   a first failure is 0 exactly where u divides q, and there is one only
 use mathlib.Core.Path.{◌≡◌, sym, ◌∙◌, subst}
 use mathlib.Core.List.Memᴰ
 use mathlib.Core.List.{[]}

@@ -1,9 +1,9 @@
 -- Laws of rows as numbers.
 --
---   key-same, key-less     where the numbers are equal the exponents are; the row with the smaller number precedes the other
---   key-of-six             the number of a row from six bytes: those behind the row are dropped
---   Front, front-first, front-next, front-done, front-none   rows told one after the other to ascend, by their numbers
---   front-more             one row more, by the test of the order
+--   key_same, key_less     where the numbers are equal the exponents are; the row with the smaller number precedes the other
+--   key_of_six             the number of a row from six bytes: those behind the row are dropped
+--   Front, front_first, front_next, front_done, front_none   rows told one after the other to ascend, by their numbers
+--   front_more             one row more, by the test of the order
 use mathlib.Core.Path.{◌≡◌, refl, sym, ap, ◌∙◌, subst}
 use mathlib.Core.Bool.{true}
 use mathlib.Core.List.{List}

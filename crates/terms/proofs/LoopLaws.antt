@@ -1,14 +1,14 @@
 -- What the loops and the returns of the code need, over plain lists and numbers.
 --
---   fails-at, never-fails     the two answers of `first_failure`
---   differs_at, never-differs   two rows that differ at a variable, and that do not
---   degree-next               the degree from a place on, and from the next
---   largest-none, -larger, -stays, -whole   the largest of the entries so far
---   stretch-large, stretch-small   what the largest entry of a stretch says of the stretch
---   any-stops, any-goes-on, any-past   a search for an entry from a place on, stretch by stretch
---   byte-within, byte_past, row-of-six   a row that is read from the bytes of a table
+--   fails_at, never_fails     the two answers of `first_failure`
+--   differs_at, never_differs   two rows that differ at a variable, and that do not
+--   degree_next               the degree from a place on, and from the next
+--   largest_none, -larger, -stays, -whole   the largest of the entries so far
+--   stretch_large, stretch_small   what the largest entry of a stretch says of the stretch
+--   any_stops, any_goes_on, any_past   a search for an entry from a place on, stretch by stretch
+--   byte_within, byte_past, row_of_six   a row that is read from the bytes of a table
 --   breaks                    the turn of `ascends` that ends it
---   refused-1 .. refused-4, passed     the answers of `table_refusal`
+--   refused_1 .. refused_4, passed     the answers of `table_refusal`
 use mathlib.Core.Path.{◌≡◌, refl, sym, ap, ◌∙◌, subst}
 use mathlib.Core.Bool.{Bool, true, false, ◌||◌}
 use mathlib.Core.List.Memᴰ

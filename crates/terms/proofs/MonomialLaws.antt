@@ -1,13 +1,13 @@
 -- Laws of exponents, of products and of 'equal before a variable'.
 --
 --   beyond, within         what is no variable of u has exponent 0; a variable with an exponent above 0 is one of u's
---   times-same, -other, -at  the exponents of a product
---   before-suc, before-zero  equal before the next variable, and before the first
---   same-all               monomials of one size that are equal before each variable are equal
---   at-or-other, three     cases on a variable: i itself or another; before i, i, behind i
---   most-by, most-tail     no exponent above b, of the exponents as a list, and behind the first
---   degree-le              a monomial that divides another has no larger degree
---   degree-most            where no exponent is above b, the degree is at most b for each variable
+--   times_same, -other, -at  the exponents of a product
+--   before_suc, before_zero  equal before the next variable, and before the first
+--   same_all               monomials of one size that are equal before each variable are equal
+--   at_or_other, three     cases on a variable: i itself or another; before i, i, behind i
+--   most_by, most_tail     no exponent above b, of the exponents as a list, and behind the first
+--   degree_le              a monomial that divides another has no larger degree
+--   degree_most            where no exponent is above b, the degree is at most b for each variable
 use mathlib.Core.Path.{◌≡◌, refl, sym, ap, subst}
 use mathlib.Core.List.{[], ◌∷◌}
 use mathlib.Core.Logic.{◌⊎◌, inl, inr, ⊎_elim, by_cases}

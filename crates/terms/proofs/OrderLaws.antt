@@ -1,9 +1,9 @@
 -- Laws of the order of rows.
 --
---   precedes-irreflexive, precedes-trans   the order is strict
---   tests-precedes, tests-ascending        the tests agree with the order
---   ascending-between, ascending-distinct   in an ascending table an earlier row precedes a later one, so no two are equal
---   ascending-unique       two ascending tables with the same rows are equal
+--   precedes_irreflexive, precedes_trans   the order is strict
+--   tests_precedes, tests_ascending        the tests agree with the order
+--   ascending_between, ascending_distinct   in an ascending table an earlier row precedes a later one, so no two are equal
+--   ascending_unique       two ascending tables with the same rows are equal
 use mathlib.Core.Path.{◌≡◌, refl, sym, ap₂, ◌∙◌, subst}
 use mathlib.Core.List.Memᴰ
 use mathlib.Core.List.{[], ◌∷◌}

@@ -1,14 +1,14 @@
 -- Laws of rows as bytes.
 --
---   length-rows, rows_at, rows-size   how many rows the bytes are, row r of them, and that each has n exponents
---   rows-flat, flat_rows, flat_first_rows   rows of bytes that were written from a table, and the bytes again
---   member-at, member-index   a row by its number, and the number of a row
---   member-take, member-drop  what stands in a part of a list stands in it
---   rows-part              the rows of the first bytes
+--   length_rows, rows_at, rows_size   how many rows the bytes are, row r of them, and that each has n exponents
+--   rows_flat, flat_rows, flat_first_rows  rows of bytes that were written from a table, and the bytes again
+--   member_at, member_index   a row by its number, and the number of a row
+--   member_take, member_drop  what stands in a part of a list stands in it
+--   rows_part              the rows of the first bytes
 --   row_fits               a row below the count lies within the bytes
---   zeros-at               each byte of an array of zeros is 0
---   padded-at        a padded row has the exponents of the row
---   row_read, row-variables   a row that was read from a table has its exponents and its n
+--   zeros_at               each byte of an array of zeros is 0
+--   padded_at        a padded row has the exponents of the row
+--   row_read, row_variables   a row that was read from a table has its exponents and its n
 --   entry_at               an exponent of a row is a byte of the table
 use mathlib.Core.Path.{◌≡◌, refl, sym, ap, ◌∙◌, subst}
 use mathlib.Core.List.Memᴰ

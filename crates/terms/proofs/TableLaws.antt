@@ -1,10 +1,10 @@
 -- Laws of a table that passed the checks 1 to 4.
 --
---   table-accepted             what is known of a table that passed them
---   accepts-table              and that this is enough to pass them
---   table-passed, table-listed   where their refusal is 0, alone or in front of other checks
---   entries-small, rows-small  no exponent of a row of it is above 50, by number and by membership
---   degree-small               and no degree is above 300
+--   table_accepted             what is known of a table that passed them
+--   accepts_table              and that this is enough to pass them
+--   table_passed, table_listed   where their refusal is 0, alone or in front of other checks
+--   entries_small, rows_small  no exponent of a row of it is above 50, by number and by membership
+--   degree_small               and no degree is above 300
 use mathlib.Core.Path.{◌≡◌, refl, sym, ◌∙◌, subst}
 use mathlib.Core.List.{List, [], ◌++◌}
 use mathlib.Core.Logic.{by_cases}

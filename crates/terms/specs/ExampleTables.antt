@@ -1,11 +1,11 @@
 -- The tables of the paper's starred examples, by the letters of the paper. Each example is shown in the crate of its rule.
 --
 --   A                no rows, n = 2; it needs no name
---   table_b           "Row 0 0"
---   table_c           "Row 3, n=1"
+--   table_b          "Row 0 0"
+--   table_c          "Row 3, n=1"
 --   table_d, completed_d   the rows of the listing, 2 1 and 0 2, and their completed table; as bytes, bytes_d; as a bundle, bundle_d;
 --                    the listing of that bundle, byte for byte, listing_d
---   table_e           "Rows 1 0 and 1 0", refused by 12; as bytes, bytes_e; as a bundle, bundle_e
+--   table_e          "Rows 1 0 and 1 0", refused by 12; as bytes, bytes_e; as a bundle, bundle_e
 --   table_f, completed_f   the rows of document 002, example 5.2, which F and G speak of, and the 11 rows that H completes them to
 --   table_i, completed_i   the rows of document 004, example 5.10, columns reversed
 --   J                D's rows with 6 and with 5 bytes of room

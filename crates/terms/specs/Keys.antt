@@ -1,6 +1,6 @@
 -- Rows as numbers: in the order of rows the number of an earlier row is smaller.
 --
---   row_key u i       the number whose digits to base 256 are the first i exponents of u
+--   row_key u i      the number whose digits to base 256 are the first i exponents of u
 --   FrontAscends n table k   the first k rows of the table, as far as there are so many, ascend strictly; k is above 0
 use Rattle.std.specs.Prelude.{List, ℕ, zero, suc, ◌+◌, ◌*◌, ◌<◌, length}
 use Rattle.terms.specs.Monomials.{Monomial, ◌!◌, row_at}

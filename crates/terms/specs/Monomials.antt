@@ -3,7 +3,7 @@
 --   Monomial         its exponents, first variable first
 --   Table            its rows, in order
 --   u ! i            the exponent of variable i. Variables count from 1; what is no variable of u has exponent 0
---   row_at G r        row r of G. Rows count from 0
+--   row_at G r       row r of G. Rows count from 0
 --   u ∈ G            u is a row of G
 --   OfSize n G       each row of G has n exponents
 --   EqualRows G      rows r and s of G, r below s, are the same monomial

@@ -1,12 +1,12 @@
 -- A table as bytes: rows of n bytes end to end.
 --
 --   rows n bytes     the table that the bytes are: the one place where bytes become rows
---   first_rows n k bytes   its first k rows
+--   first_rows n k bytes  its first k rows
 --   flat G           the rows of G end to end: the one place where rows become bytes
 --   padded u         u with zeros for the exponents that it lacks of six
---   as_row n u        u as the record that is passed about: six exponents and n
---   monomial_of r     the monomial that a record is: its first n exponents
---   put_row n k u bytes    the bytes with the first n exponents of u in the place of row k
+--   as_row n u       u as the record that is passed about: six exponents and n
+--   monomial_of r    the monomial that a record is: its first n exponents
+--   put_row n k u bytes   the bytes with the first n exponents of u in the place of row k
 use Rattle.std.specs.Prelude.{List, [], ◌∷◌, ◌++◌, ℕ, zero, suc, ◌*◌, ◌-◌, ◌/◌, length, take, drop, replicate}
 use Rattle.std.proofs.Math.Seq.{paste}
 use Rattle.terms.specs.Monomials.{Monomial, Table}

@@ -1,8 +1,8 @@
 -- The checks 1 to 4, which every operation on a table begins with.
 --
 --   NotOneToSix n, NoMultiple n bytes, TooManyRows n bytes, EntryAbove50 bytes   the conditions of 1 to 4, each with its test, `tests-..`
---   no-multiple, quotient   lengths with and without remainder
---   table_checks n bytes   the checks in order. An operation's list is these and then its own
+--   no_multiple, quotient   lengths with and without remainder
+--   table_checks n bytes  the checks in order. An operation's list is these and then its own
 --   TableAccepted n bytes   what is known of a table that passes them
 use Rattle.std.specs.Prelude.{◌≡◌, not, ◌&&◌, ℕ, ◌*◌, ◌/◌, ◌%◌, ◌≤◌, ◌<◌, leb, ltb, eqb, length}
 use Rattle.std.proofs.Common.{sym, ap, ◌∙◌, div-add-mod', arith, lit<}

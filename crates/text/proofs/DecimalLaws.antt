@@ -1,9 +1,9 @@
 -- Laws of numbers as text.
 --
---   decimal-one, decimal-more   a number below 10 is one digit; another is the number of its tens and then one digit
---   decimal-value, decimal_injective   read as digits it is the number, so the digits tell numbers apart
---   decimal-length              a number below 10 ^ (k + 1) has at most k + 1 digits
---   number-one, number_more     so a number is written digit by digit
+--   decimal_one, decimal_more   a number below 10 is one digit; another is the number of its tens and then one digit
+--   decimal_value, decimal_injective   read as digits it is the number, so the digits tell numbers apart
+--   decimal_length              a number below 10 ^ (k + 1) has at most k + 1 digits
+--   number_one, number_more     so a number is written digit by digit
 use mathlib.Core.Path.{◌≡◌, refl, sym, ap, ◌∙◌}
 use mathlib.Core.List.{List, [], ◌∷◌, ◌++◌}
 use mathlib.Core.Logic.{by_cases}

@@ -1,7 +1,7 @@
 -- Numbers and lines as text, in bytes.
 --
 --   decimal x        the decimal digits of x in ASCII, without zeros in front; 0 is one digit
---   value_from v l    the number that the digits l give behind the number v
+--   value_from v l   the number that the digits l give behind the number v
 --   field x          one space and a number
 --   fields l         the fields of l, parted by one space
 --   line l           those fields and a line feed

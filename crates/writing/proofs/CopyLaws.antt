@@ -1,9 +1,9 @@
 -- Laws of copies.
 --
 --   same_byte              a byte before the place up to which two arrays are equal
---   pasted-front           the bytes before a copy
---   Copied, copied_none, copied_more, copied-within, copied_all, copied-length   a copy, byte by byte, from another array or within one
---   pasted-wrote           a whole array, copied, is written
+--   pasted_front           the bytes before a copy
+--   Copied, copied_none, copied_more, copied_within, copied_all, copied_length   a copy, byte by byte, from another array or within one
+--   pasted_wrote           a whole array, copied, is written
 use mathlib.Core.Path.{◌≡◌, refl, sym, ap, ◌∙◌}
 use mathlib.Core.List.{List, ◌++◌, append_assoc}
 use Prim.Native.Nat.{ℕ, ◌+◌, ◌≤◌, ◌<◌}

@@ -1,6 +1,6 @@
 -- Laws of text put into a buffer.
 --
---   wrote_nothing, wrote-byte, wrote_then   no text, one byte, and one text behind another
+--   wrote_nothing, wrote_byte, wrote_then   no text, one byte, and one text behind another
 use mathlib.Core.Path.{◌≡◌, refl, sym, ap, ◌∙◌}
 use mathlib.Core.List.{List, [], ◌∷◌, ◌++◌, append_assoc}
 use Prim.Native.Nat.{ℕ, ◌+◌, ◌≤◌, ◌<◌}

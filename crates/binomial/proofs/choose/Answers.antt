@@ -3,7 +3,6 @@ use Rattle.binomial.proofs.Numbers.{numbers}
 use Rattle.binomial.proofs.Pascal.{entry}
 use Rattle.binomial.proofs.choose.Goals as goal
 
--- TODO tie.Need-array-read-result
 pub returns : goal.returns
 unfolding numbers
 returns c = entry c.args.top c.args.bottom c.requires.0 c.requires.1

@@ -1,5 +1,5 @@
 -- Invariant: stepping has come to the exponent of the rows low to before high, and what is left of rule 6 from here is the same as from the start.
--- The next exponent that does not exceed the query's is one more step (run-next); where there is none stepping has ended.
+-- The next exponent that does not exceed the query's is one more step (run_next); where there is none stepping has ended.
 use Prim.Native.Nat.{◌-◌}
 use Rattle.terms.specs.Rows.{rows}
 use Rattle.finding.specs.Stepping.{AtRun}

@@ -11,14 +11,12 @@ overflow_cast-row c = record { fits = omega (arith, row_small c.find-answer.ensu
 pub overflow_cast-steps : goal.overflow_cast-steps
 overflow_cast-steps c =
     let found = c.find-answer in
-    let bytes = c.shared_slice_known-2-1 in
-    record { fits = omega (arith, steps_small (λ i. omega (arith, bytes.given i)) found.ensures c.in-Row.is refl) }
+    record { fits = omega (arith, steps_small (λ i. omega (arith, c.type_inv.query i)) found.ensures c.in-Row.is refl) }
 
 pub overflow_cast-steps-in-Nothing : goal.overflow_cast-steps-in-Nothing
 overflow_cast-steps-in-Nothing c =
     let found = c.find-answer in
-    let bytes = c.shared_slice_known-2-1 in
-    record { fits = omega (arith, steps_small (λ i. omega (arith, bytes.given i)) found.ensures c.in-Nothing.is refl) }
+    record { fits = omega (arith, steps_small (λ i. omega (arith, c.type_inv.query i)) found.ensures c.in-Nothing.is refl) }
 
 pub returns-in-Row : goal.returns-in-Row
 returns-in-Row c = find_out c.find-answer.ensures c.in-Row.is

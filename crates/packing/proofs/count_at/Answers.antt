@@ -4,7 +4,7 @@ use mathlib.Core.Path.{refl}
 use Rattle.packing.proofs.count_at.Goals as goal
 
 pub overflow_cast-result : goal.overflow_cast-result
-overflow_cast-result c = omega (arith, c.shared_slice_known-1.given c.args.j)
+overflow_cast-result c = omega (arith, c.type_inv.counts c.args.j)
 
 pub returns : goal.returns
-returns c = (refl, omega (arith, c.shared_slice_known-1.given c.args.j))
+returns c = (refl, omega (arith, c.type_inv.counts c.args.j))

@@ -36,14 +36,14 @@ returns-then-tables-demanded c =
 
 pub returns-then-many : goal.returns-then-many
 returns-then-many c =
-    let whole : length c.args.tables.now ≡ total_rows c.args.counts.now * c.args.n = rw (← c.total_rows.ensures.0) c.if-tables-demanded.false in
+    let whole : length c.args.tables.now ≡ total_rows c.args.counts.now * c.args.n = cc in
     let a = c.args in
     shape_three a.n a.counts.now a.tables.now (omega arith) (omega arith) (omega arith) (omega arith) whole
     (sym c.has_large_count-many.ensures ∙ c.if-many.true)
 
 pub returns : goal.returns
 returns c =
-    let whole : length c.args.tables.now ≡ total_rows c.args.counts.now * c.args.n = rw (← c.total_rows.ensures.0) c.if-tables-demanded.false in
+    let whole : length c.args.tables.now ≡ total_rows c.args.counts.now * c.args.n = cc in
     let a = c.args in
     shape_passes a.n a.counts.now a.tables.now (omega arith) (omega arith) (omega arith) (omega arith) whole
     (sym c.has_large_count-many.ensures ∙ c.if-many.false)

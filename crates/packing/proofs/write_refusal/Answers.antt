@@ -33,7 +33,7 @@ returns-then-large c =
 pub returns-then-some_equal_rows : goal.returns-then-some_equal_rows
 returns-then-some_equal_rows c =
     let passed : refusal (shape_checks c.args.n c.args.counts.now c.args.tables.now) ≡ 0 = sym c.shape_refusal-refused.ensures ∙ c.if-refused-ne0.false in
-    let small : any (λ e. ltb 50 e) c.args.tables.now ≡ false = sym c.has_large_entry-large.ensures ∙ c.if-large.false in
+    let small : any (λ e. ltb 50 e) c.args.tables.now ≡ false = cc in
     let a = c.args in
     write_twelve a.n a.counts.now a.tables.now a.room passed small
     (sym c.some_equal_rows.ensures ∙ c.if-some_equal_rows.true)
@@ -41,29 +41,29 @@ returns-then-some_equal_rows c =
 pub some_equal_rows-requires : goal.some_equal_rows-requires
 some_equal_rows-requires c =
     let passed : refusal (shape_checks c.args.n c.args.counts.now c.args.tables.now) ≡ 0 = sym c.shape_refusal-refused.ensures ∙ c.if-refused-ne0.false in
-    let small : any (λ e. ltb 50 e) c.args.tables.now ≡ false = sym c.has_large_entry-large.ensures ∙ c.if-large.false in
+    let small : any (λ e. ltb 50 e) c.args.tables.now ≡ false = cc in
     (passed, small)
 
 pub returns-then-room-size : goal.returns-then-room-size
 returns-then-room-size c =
     let passed : refusal (shape_checks c.args.n c.args.counts.now c.args.tables.now) ≡ 0 = sym c.shape_refusal-refused.ensures ∙ c.if-refused-ne0.false in
-    let small : any (λ e. ltb 50 e) c.args.tables.now ≡ false = sym c.has_large_entry-large.ensures ∙ c.if-large.false in
-    let distinct : let a = c.args in any equal_rows_test (given_tables a.n a.counts.now a.tables.now) ≡ false = sym c.some_equal_rows.ensures ∙ c.if-some_equal_rows.false in
+    let small : any (λ e. ltb 50 e) c.args.tables.now ≡ false = cc in
+    let distinct : let a = c.args in any equal_rows_test (given_tables a.n a.counts.now a.tables.now) ≡ false = cc in
     let a = c.args in
     write_eight a.n a.counts.now a.tables.now a.room passed small distinct (inl c.if-room-size.true)
 
 pub returns-then-size-gt-MOST_BYTES : goal.returns-then-size-gt-MOST_BYTES
 returns-then-size-gt-MOST_BYTES c =
     let passed : refusal (shape_checks c.args.n c.args.counts.now c.args.tables.now) ≡ 0 = sym c.shape_refusal-refused.ensures ∙ c.if-refused-ne0.false in
-    let small : any (λ e. ltb 50 e) c.args.tables.now ≡ false = sym c.has_large_entry-large.ensures ∙ c.if-large.false in
-    let distinct : let a = c.args in any equal_rows_test (given_tables a.n a.counts.now a.tables.now) ≡ false = sym c.some_equal_rows.ensures ∙ c.if-some_equal_rows.false in
+    let small : any (λ e. ltb 50 e) c.args.tables.now ≡ false = cc in
+    let distinct : let a = c.args in any equal_rows_test (given_tables a.n a.counts.now a.tables.now) ≡ false = cc in
     let a = c.args in
     write_eight a.n a.counts.now a.tables.now a.room passed small distinct (inr c.if-size-gt-MOST_BYTES.true)
 
 pub returns-else-size-gt-MOST_BYTES : goal.returns-else-size-gt-MOST_BYTES
 returns-else-size-gt-MOST_BYTES c =
     let passed : refusal (shape_checks c.args.n c.args.counts.now c.args.tables.now) ≡ 0 = sym c.shape_refusal-refused.ensures ∙ c.if-refused-ne0.false in
-    let small : any (λ e. ltb 50 e) c.args.tables.now ≡ false = sym c.has_large_entry-large.ensures ∙ c.if-large.false in
-    let distinct : let a = c.args in any equal_rows_test (given_tables a.n a.counts.now a.tables.now) ≡ false = sym c.some_equal_rows.ensures ∙ c.if-some_equal_rows.false in
+    let small : any (λ e. ltb 50 e) c.args.tables.now ≡ false = cc in
+    let distinct : let a = c.args in any equal_rows_test (given_tables a.n a.counts.now a.tables.now) ≡ false = cc in
     let a = c.args in
     write_passes a.n a.counts.now a.tables.now a.room passed small distinct c.if-room-size.false c.if-size-gt-MOST_BYTES.false

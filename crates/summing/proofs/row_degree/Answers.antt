@@ -25,10 +25,10 @@ bounds-table-base c =
 pub overflow_cast-sum : goal.overflow_cast-sum
 overflow_cast-sum c =
     let a = c.args in
-    omega (arith, c.shared_slice_known-1.given (a.k.0 * a.n + c.loop-i.i))
+    omega (arith, c.type_inv.table (a.k.0 * a.n + c.loop-i.i))
 
 pub overflow_add-sum-in-loop-i : goal.overflow_add-sum-in-loop-i
-overflow_add-sum-in-loop-i c = omega (arith, c.shared_slice_known-1.given (c.args.k.0 * c.args.n + c.loop-i.i), c.requires.0)
+overflow_add-sum-in-loop-i c = omega (arith, c.type_inv.table (c.args.k.0 * c.args.n + c.loop-i.i), c.requires.0)
 
 pub loop-i-preserved : goal.loop-i-preserved
 loop-i-preserved c =
@@ -36,7 +36,7 @@ loop-i-preserved c =
     let t = c.args.table.now in
     let k = c.args.k.0 in
     let i = c.loop-i.i in
-    let byte = c.shared_slice_known-1.given (k * n + i) in
+    let byte = c.type_inv.table (k * n + i) in
     let size = row_size n t k c.requires.1 in
     let next = degree_next (row_at (rows n t) k) i (omega arith) in
     (omega arith, omega (arith, entry_at n t k i c.requires.1 (omega arith)), omega arith)

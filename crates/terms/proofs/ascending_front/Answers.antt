@@ -27,7 +27,7 @@ pub loop-at-preserved : goal.loop-at-preserved
 loop-at-preserved c =
     let key = c.key_at-key in (
       omega (arith, c.loop-at.invariant.0, c.requires),
-      front_next c.loop-at.invariant.1 (λ i. omega (arith, c.shared_slice_known-1.given i)) (omega arith) (omega arith) key.result key.ensures (omega arith),
+      front_next c.loop-at.invariant.1 (λ i. omega (arith, c.type_inv.table i)) (omega arith) (omega arith) key.result key.ensures (omega arith),
     )
 
 pub returns : goal.returns

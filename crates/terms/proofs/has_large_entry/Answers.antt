@@ -7,20 +7,18 @@ use Rattle.terms.proofs.has_large_entry.Goals as goal
 pub loop-from-init : goal.loop-from-init
 loop-from-init c = (omega arith, refl)
 
--- TODO tie.Need-slice-bounds-largest-of-start invariant-loop decreases-loop
--- TODO tie.Need-slice-bounds-largest-of-end invariant-loop decreases-loop
 pub returns-then-largest_of-gt-LARGEST_ENTRY : goal.returns-then-largest_of-gt-LARGEST_ENTRY
 returns-then-largest_of-gt-LARGEST_ENTRY c =
     let bytes = c.args.bytes.now in
     let end = c.stretch_end-end.result in
-    let large = stretch_large 50 _ _ c.largest_of.ensures c.if-largest_of-gt-LARGEST_ENTRY.true in
+    let large = stretch_large 50 _ _ c.largest_of.ensures (omega arith) in
     sym (c.loop-from.invariant.1 ∙ any_stops (λ e. ltb 50 e) bytes c.loop-from.from end (omega arith) large)
 
 pub loop-from-preserved : goal.loop-from-preserved
 loop-from-preserved c =
     let bytes = c.args.bytes.now in
     let end = c.stretch_end-end.result in
-    let small = stretch_small 50 _ _ c.largest_of.ensures c.if-largest_of-gt-LARGEST_ENTRY.false in
+    let small = stretch_small 50 _ _ c.largest_of.ensures (omega arith) in
     (omega arith, c.loop-from.invariant.1 ∙ any_goes_on (λ e. ltb 50 e) bytes c.loop-from.from end (omega arith) small)
 
 pub returns : goal.returns

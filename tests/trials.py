@@ -11,7 +11,7 @@ import tempfile
 ROOT = os.path.dirname(os.path.dirname(os.path.abspath(__file__)))
 SOURCE = 'crates/terms/src/lib.rt'
 EDIT = 'crates/checks/must-fail/last_check_that_holds.edit'
-CRATES = ('checks', 'terms', 'refusals')
+CRATES = ('checks', 'terms', 'ordering', 'distinct', 'refusals')
 
 
 def copy(folder):

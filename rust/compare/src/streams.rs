@@ -20,8 +20,6 @@ use std::time::Duration;
 const NOT_WRITTEN: &str = "janet: the listing could not be written\n";
 /// The listing where there was nothing to read.
 const NOTHING_READ: &str = "R 9\n";
-/// The signal that ends a program which writes to a pipe without a reader.
-const BROKEN_PIPE: i32 = 13;
 /// The pause behind each byte.
 const PAUSE: Duration = Duration::from_millis(2);
 
@@ -87,12 +85,11 @@ fn failed_later(program: &Path, report: &mut Report) -> io::Result<()> {
     Ok(())
 }
 
-/// A pipe whose reader is gone before the first byte: the signal ends the program; where the signal is ignored, the
-/// program tells that it could not write.
+/// A pipe whose reader is gone before the first byte: the program tells that it could not write. A program of today's
+/// Rattle ignores the signal of such a pipe from its start, so it does not matter whether the signal was ignored before.
 fn gone_readers(program: &Path, report: &mut Report) -> io::Result<()> {
-    let ended = || Left { status: None, signal: Some(BROKEN_PIPE), ..Left::ended("", "") };
-    let cases = [(r#"exec "$0""#, ended()), (r#"trap "" PIPE; exec "$0""#, Left::ended("", NOT_WRITTEN))];
-    for (words, expected) in cases {
+    let expected = Left::ended("", NOT_WRITTEN);
+    for words in [r#"exec "$0""#, r#"trap "" PIPE; exec "$0""#] {
         for bundle in [bundles::paper(), long_listing()] {
             let mut child = start(&mut in_shell(program, words))?;
             drop(child.stdout.take());

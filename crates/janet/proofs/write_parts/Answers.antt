@@ -1,4 +1,3 @@
-use Prim.Native.Nat.{◌-◌}
 use Rattle.janet.proofs.write_parts.Goals as goal
 
 pub write_part-requires : goal.write_part-requires

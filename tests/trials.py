@@ -55,6 +55,8 @@ FAULTS = {
     'a wrong expected output': lambda folder: edit(folder, 'crates/refusals/stdout', '1\n', '2\n'),
     'a surviving must-fail edit': lambda folder: write(
         folder, 'crates/terms/must-fail/comment.edit', 'file: src/lib.rt\nold: // A total degree.\nnew: // A degree.\n'),
+    'an edit that cannot be tried': lambda folder: write(
+        folder, 'crates/terms/must-fail/nowhere.edit', 'refused: divides: ensures\nfile: src/lib.rt\nold: what does not stand there\nnew: nothing\n'),
     'an edit that is refused elsewhere': lambda folder: edit(folder, EDIT, 'refused: law first_check', 'refused: law refusal_holds'),
     'an edit that names no place': lambda folder: edit(folder, EDIT, 'refused: law first_check', ''),
     'a page that names another place': lambda folder: write(

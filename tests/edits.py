@@ -18,7 +18,7 @@ import copies
 ROOT = copies.ROOT
 NAMED = re.compile(r'^refused: (?:law (?P<law>\S+)|(?P<function>\w+): (?P<clause>ensures|invariant|requires of \w+))$', re.M)
 TRIED = re.compile(r'^rt: must-fail (\w+)/(\w+)\.edit: refused, as it must be(?: \([^)]*\))?: (.*)$', re.M)
-ERROR = re.compile(r'^(?:\./)?(?P<path>proofs/[^\s:]+):\d+:\d+: error: `(?P<fact>[^`]+)`: (?P<message>[^\n]*(?:\n  [^\n]*)*)', re.M)
+ERROR = re.compile(r'^(?:\./)?(?P<path>(?:specs|proofs)/[^\s:]+):\d+:\d+: error: `(?P<fact>[^`]+)`: (?P<message>[^\n]*(?:\n  [^\n]*)*)', re.M)
 NOTE = re.compile(r'^note: (?P<path>src/[^\s:]+):(?P<line>\d+):\d+: it is not proved that [^\n]*\(`(?P<fact>[^`]+)', re.M)
 NAMES = re.compile(r'\A(?:record [^\n]*(?:\n  [^\n]*)?has no field|[^\n]*(?:is not in scope|has no `|was not admitted))')
 CLAUSES = (

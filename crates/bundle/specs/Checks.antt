@@ -26,8 +26,7 @@ use Rattle.checks.proofs.TestLaws.{tests_le, tests_lt, tests_eq, tests_and, test
 use Rattle.checks.specs.Refusals.{Check, check}
 use Rattle.terms.specs.Monomials.{EqualRows}
 use Rattle.terms.specs.TableChecks.{EntryAbove50, tests_entry_above50, tests_not_one_to_six}
-use Rattle.distinct.specs.EqualRows.{equal_rows_test}
-use Rattle.distinct.proofs.TestLaws.{tests_equal_rows}
+use Rattle.distinct.specs.EqualRows.{equal_rows_test, tests_equal_rows}
 use Rattle.bundle.specs.Format.{variables_of, table_count, header_length, row_count, offset_of, body_length, place_of, body_of, table_of}
 
 -- ---- the conditions

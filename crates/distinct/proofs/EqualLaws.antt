@@ -22,8 +22,7 @@ use Rattle.terms.proofs.MonomialLaws.{beyond, same_all}
 use Rattle.terms.proofs.OrderLaws.{precedes_irreflexive, precedes_trans, tests_ascending, ascending_distinct}
 use Rattle.ordering.specs.Listing.{Comes, listed, Listing}
 use Rattle.ordering.specs.Passes.{at}
-use Rattle.distinct.specs.EqualRows.{same_test, equal_rows_test, tests_same_monomial}
-use Rattle.distinct.proofs.TestLaws.{tests_equal_rows}
+use Rattle.distinct.specs.EqualRows.{same_test, equal_rows_test, tests_same_monomial, tests_equal_rows}
 
 -- ---- two rows, from the last exponent to the first
 

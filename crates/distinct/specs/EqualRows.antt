@@ -3,14 +3,13 @@
 --   equal_rows_check n table   12: two equal rows in the table
 --   distinct_checks n table   the checks 1 to 4, then 12. An operation's list is these and then its own
 --
--- With the tests `same_test` of two monomials, and `equal_rows_test` of `EqualRows` (`terms/specs/Monomials`); its law `tests_equal_rows` is
--- in proofs/TestLaws.
+-- With the tests `same_test` of two monomials, and `equal_rows_test` of `EqualRows` (`terms/specs/Monomials`).
 use Rattle.std.specs.Prelude.{◌≡◌, refl, Bool, true, false, ◌&&◌, List, [], ◌∷◌, ◌++◌, ℕ, eqb, length}
 use Rattle.std.proofs.Common.{sym, ap, ap₂, arith, lit<}
 use Rattle.checks.specs.Tests.{Tests, some_below}
 use Rattle.checks.specs.Refusals.{Check, check}
 use Rattle.checks.proofs.TestLaws.{tests_as, tests_and, tests_eq, tests_some_below}
-use Rattle.terms.specs.Monomials.{Monomial, Table, row_at}
+use Rattle.terms.specs.Monomials.{Monomial, Table, row_at, EqualRows}
 use Rattle.terms.specs.Rows.{rows}
 use Rattle.terms.specs.TableChecks.{table_checks}
 
@@ -39,12 +38,14 @@ tests_same_monomial (a ∷ u) (b ∷ v) = tests_as (tests_and (tests_eq a b) (λ
 unfoldable pub equal_rows_test : Table → Bool
 equal_rows_test G = some_below (length G) (λ s. some_below s (λ r. same_test (row_at G r) (row_at G s)))
 
+pub tests_equal_rows : (G : Table) → Tests (equal_rows_test G) (EqualRows G)
+unfolding equal_rows_test
+tests_equal_rows G = tests_some_below (length G) (λ s. tests_some_below s (λ r. tests_same_monomial (row_at G r) (row_at G s)))
+
 -- ---- the check
 
 abbrev pub equal_rows_check : ℕ → List ℕ → Check
-equal_rows_check n table =
-    let G = rows n table in
-    check 12 (lit< tt) (tests_some_below (length G) (λ s. tests_some_below s (λ r. tests_same_monomial (row_at G r) (row_at G s))))
+equal_rows_check n table = check 12 (lit< tt) (tests_equal_rows (rows n table))
 
 abbrev pub distinct_checks : ℕ → List ℕ → List Check
 distinct_checks n table = table_checks n table ++ (equal_rows_check n table ∷ [])

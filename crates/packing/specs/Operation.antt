@@ -22,8 +22,7 @@ use Rattle.checks.specs.Refusals.{Check, refusal, check, answered, numbered}
 use Rattle.checks.proofs.TestLaws.{tests_le, tests_lt, tests_eq, tests_and, tests_or, tests_not, tests_any}
 use Rattle.terms.specs.TableChecks.{tests_not_one_to_six, tests_entry_above50}
 use Rattle.terms.specs.Monomials.{Table, EqualRows}
-use Rattle.distinct.specs.EqualRows.{equal_rows_test}
-use Rattle.distinct.proofs.TestLaws.{tests_equal_rows}
+use Rattle.distinct.specs.EqualRows.{equal_rows_test, tests_equal_rows}
 use Rattle.packing.specs.GivenTables.{total_rows, given_tables, given_bundle}
 use Rattle.packing.specs.declared.WriteAnswer.{WriteAnswer}
 use Rattle.packing.specs.declared.WriteAnswer.TheVariants.{Length, Refused}

@@ -4,7 +4,7 @@ use native.Mathlib.Numerals.{add-one}
 use Rattle.checks.proofs.TestLaws.{tests_true, tests_false, true_tests, false_tests}
 use Rattle.terms.specs.Monomials.{Distinct}
 use Rattle.terms.proofs.MonomialLaws.{below_suc}
-use Rattle.distinct.proofs.TestLaws.{tests_equal_rows}
+use Rattle.distinct.specs.EqualRows.{tests_equal_rows}
 use Rattle.bundle.specs.Format.{table_of}
 use Rattle.bundle.specs.Checks.{tests_equal_rows_in}
 use Rattle.bundle.proofs.some_equal_rows.Goals as goal

@@ -6,7 +6,7 @@ use Rattle.checks.proofs.TestLaws.{true_tests, false_tests}
 use Rattle.terms.specs.Rows.{rows}
 use Rattle.terms.specs.TableChecks.{table_checks}
 use Rattle.terms.proofs.TableLaws.{table_passed}
-use Rattle.distinct.proofs.TestLaws.{tests_equal_rows}
+use Rattle.distinct.specs.EqualRows.{tests_equal_rows}
 use Rattle.distinct.proofs.CheckLaws.{refuses_equal, refuses_distinct}
 use Rattle.distinct.proofs.distinct_refusal.Goals as goal
 

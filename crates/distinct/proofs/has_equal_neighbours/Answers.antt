@@ -7,8 +7,7 @@ use Rattle.terms.specs.Monomials.{Table, row_at}
 use Rattle.terms.specs.Rows.{rows}
 use Rattle.terms.proofs.RowsLaws.{length_rows}
 use Rattle.ordering.specs.Passes.{at}
-use Rattle.distinct.specs.EqualRows.{same_test}
-use Rattle.distinct.proofs.TestLaws.{tests_equal_rows}
+use Rattle.distinct.specs.EqualRows.{same_test, tests_equal_rows}
 use Rattle.distinct.proofs.EqualLaws.{found_equal, neighbours_next, neighbours_none}
 use Rattle.distinct.proofs.has_equal_neighbours.Goals as goal
 

@@ -9,8 +9,7 @@ use Rattle.terms.specs.Rows.{rows}
 use Rattle.terms.specs.TableChecks.{TableAccepted}
 use Rattle.terms.proofs.RowsLaws.{length_rows}
 use Rattle.terms.proofs.TableLaws.{table_passed}
-use Rattle.distinct.specs.EqualRows.{distinct_checks}
-use Rattle.distinct.proofs.TestLaws.{tests_equal_rows}
+use Rattle.distinct.specs.EqualRows.{distinct_checks, tests_equal_rows}
 use Rattle.distinct.proofs.CheckLaws.{refuses_distinct}
 use Rattle.marking.proofs.OperationLaws.{marks_accepts, marks_refuses, refuses_rows, refuses_buffer, refuses_none, markable}
 use Rattle.marking.proofs.marks_unordered.Goals as goal

@@ -81,7 +81,7 @@ def functions(crate):
 def function_at(crate, path, line):
     """The function of the line: the last that begins at or before it, with its attributes. An edit is one line for one line."""
     lines = copies.read(os.path.join(ROOT, 'crates', crate, path)).split('\n')
-    while lines[line - 1].startswith('#['):
+    while lines[line - 1].lstrip().startswith('#['):
         line += 1
     return next((found.group(1) for found in (re.search(r'\bfn (\w+)', text) for text in reversed(lines[:line])) if found), '')
 

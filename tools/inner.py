@@ -21,10 +21,9 @@ ghost use Rattle.terms.specs.Rows.{rows};
 ghost use Rattle.division.specs.Checks.{Ready};
 ghost use Rattle.summing.specs.Sums.{Checked, Marked};
 
-use division::Found;
 use finding::descend_table;
 use summing::count_sum;
-use terms::Degree;
+use terms::{Degree, FlatTable};
 
 // What stands for 'no row'.
 pub const NO_ROW: usize = 65535;
@@ -34,12 +33,11 @@ pub const NO_ROW: usize = 65535;
 pub extern "C" fn inner_descend(n: usize, table: &[u8], query: &[u8], steps: &mut usize) -> usize
     requires { Ready n (rows n table.now) × (length query.now ≡ n) }
 {
-    let descent = descend_table(n, table, query);
+    let descent = descend_table(FlatTable { n, bytes: table }, query);
     *steps = descent.steps;
-    let found = descent.found;
-    match found {
-        Found::Row(row) => row.0,
-        Found::Nothing => NO_ROW,
+    match descent.found {
+        Ok(row) => row.0,
+        Err(_) => NO_ROW,
     }
 }
 
@@ -48,7 +46,7 @@ pub extern "C" fn inner_descend(n: usize, table: &[u8], query: &[u8], steps: &mu
 pub extern "C" fn inner_count_sum(n: usize, table: &[u8], marks: &[u8], degree: usize) -> u64
     requires { Checked n table.now × Marked n table.now marks.now × (degree ≤ 300) }
 {
-    count_sum(n, table, marks, Degree(degree))
+    count_sum(FlatTable { n, bytes: table }, marks, Degree(degree))
 }
 '''
 

@@ -1,23 +1,25 @@
 -- What ties the recursion on lists to rows in a buffer: rows behind a common front, and room.
 --
 --   flat_append            the bytes of two tables, one behind the other
---   length_behind, -repeated, -after   how many rows there are
+--   length_behind, -after  how many rows there are
 --   after_size             the rows behind a front of k exponents have k more
 --   after_append, -behind, -set, -drop   a block in a buffer: appended, under the next front, copied with one column set, without its first columns
---   fit_within, fit_beyond, beyond_fit, fit_part   room, and that running out of it is final
+--   fit_within, fit_beyond, beyond_fit, within_fit, fit_more   room, and that running out of it is final
 --   walk_fit               a walk that has run out of room has the answer of the whole
 use mathlib.Core.Path.{◌≡◌, refl, sym, ap, ◌∙◌}
 use mathlib.Core.List.Memᴰ
 use mathlib.Core.List.{List, [], ◌∷◌, ◌++◌, map, append_assoc}
 use mathlib.Core.Logic.{by_cases}
-use Prim.Native.Nat.{ℕ, zero, suc, ◌+◌, ◌*◌, ◌≤◌, ◌<◌}
+use Prim.Native.Nat.{ℕ, suc, ◌+◌, ◌*◌, ◌≤◌, ◌<◌}
 use native.Mathlib.Decide.{dec_le}
+use native.Mathlib.Nat.{mul-le-mul_right}
 use native.Mathlib.Omega.{arith}
 use lib.ListN.{length, set, drop, length-append, length-map}
+use Rattle.std.proofs.Common.{Some, None}
 use Rattle.checks.proofs.TestLaws.{pick_true, pick_false, tests_le}
 use Rattle.terms.specs.Monomials.{Monomial, Table, OfSize}
 use Rattle.terms.specs.Rows.{flat}
-use Rattle.completion.specs.Blocks.{behind, repeated}
+use Rattle.completion.specs.Blocks.{behind}
 use Rattle.completion.specs.Slices.{walk, slices}
 use Rattle.blocks.specs.Bytes.{after, fit}
 use Rattle.completion.proofs.BlockLaws.{cons_same}
@@ -35,11 +37,6 @@ flat_append (u ∷ G) H = ap (λ (l : List ℕ). u ++ l) (flat_append G H) ∙ s
 pub length_behind : (a : ℕ) (B : Table) → length (behind a B) ≡ length B
 unfolding behind
 length_behind a B = length-map B (λ t. a ∷ t)
-
-pub length_repeated : (b k : ℕ) (B : Table) → length (repeated b k B) ≡ k * length B
-unfolding repeated
-length_repeated b zero B = omega arith
-length_repeated b (suc k) B = length-append (repeated b k B) (behind (b + k) B) ∙ omega (arith, length_repeated b k B, length_behind (b + k) B)
 
 pub length_after : (p : Monomial) (H : Table) → length (after p H) ≡ length H
 unfolding after
@@ -95,26 +92,30 @@ after_drop p a (t ∷ B) = cons_same (drop_front p a t) (after_drop p a B)
 
 -- ---- room
 
-pub fit_within : (room e : ℕ) → e ≤ room → fit room e ≡ e
+pub fit_within : (n size e : ℕ) → e * n ≤ size → fit n size e ≡ Some e
 unfolding fit
-fit_within room e h = sym (pick_true (tests_le e room) e (suc room) h)
+fit_within n size e h = sym (pick_true (tests_le (e * n) size) (Some e) None h)
 
-pub fit_beyond : (room e : ℕ) → room < e → fit room e ≡ suc room
+pub fit_beyond : (n size e : ℕ) → size < e * n → fit n size e ≡ None
 unfolding fit
-fit_beyond room e h = sym (pick_false (tests_le e room) e (suc room) (λ l. omega arith))
+fit_beyond n size e h = sym (pick_false (tests_le (e * n) size) (Some e) None (λ l. omega arith))
 
-pub beyond_fit : (room e : ℕ) → room < fit room e → room < e
-beyond_fit room e h = by_cases (dec_le e room) (λ l. omega (arith, fit_within room e l)) (λ l. omega arith)
+pub beyond_fit : (n size e : ℕ) → None ≡ fit n size e → size < e * n
+beyond_fit n size e h = by_cases (dec_le (e * n) size) (λ l. let some = fit_within n size e l in cc) (λ l. omega arith)
 
-pub within_fit : (room e : ℕ) → fit room e ≤ room → e ≤ room
-within_fit room e h = by_cases (dec_le e room) (λ l. l) (λ l. absurd (omega (arith, fit_beyond room e (omega arith))))
+pub within_fit : (n size e x : ℕ) → Some x ≡ fit n size e → (x ≡ e) × (e * n ≤ size)
+within_fit n size e x h = by_cases (dec_le (e * n) size)
+    (λ l. let some = fit_within n size e l in (cc, l))
+    (λ l. let none = fit_beyond n size e (omega arith) in cc)
 
--- where a front part has no room, the whole has none
-pub fit_part : (L R : Table) {M : Table} → L ++ R ≡ M → (room from : ℕ) → room < from + length L → fit room (from + length M) ≡ suc room
-fit_part L R {M} e room from h = fit_beyond room (from + length M) (omega (arith, length-append L R, ap length e))
+-- where some rows have no room, more have none
+pub fit_more : (n size e more : ℕ) → size < e * n → e ≤ more → fit n size more ≡ None
+fit_more n size e more h l = let m : e * n ≤ more * n = mul-le-mul_right n l in fit_beyond n size more (omega arith)
 
-pub walk_fit : (n : ℕ) (G : Table) → OfSize (suc n) G → (room from a : ℕ) → room < from + length (walk (λ H. slices n H) G a).written →
-    fit room (from + length (slices (suc n) G)) ≡ suc room
-walk_fit n G z room from a h =
-    let r = walk_part n G z a in
-    fit_part (walk (λ H. slices n H) G a).written r.0 r.1 room from h
+-- where what a walk has written has no room, the whole has none
+pub walk_fit : (rest : ℕ) (G : Table) → OfSize (suc rest) G → (n size from a : ℕ) → size < (from + length (walk (λ H. slices rest H) G a).written) * n →
+    fit n size (from + length (slices (suc rest) G)) ≡ None
+walk_fit rest G z n size from a h =
+    let W : Table = (walk (λ H. slices rest H) G a).written in
+    let r = walk_part rest G z a in
+    fit_more n size (from + length W) _ h (omega (arith, length-append W r.0, ap length r.1))

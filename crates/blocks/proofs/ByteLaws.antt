@@ -1,37 +1,40 @@
 -- Bytes in arrays: what the loops of the code read and write, one turn each.
 --
---   times_pred, times_less, times_large, rows_before, rows_fewer   products of a number of rows with their size
+--   times_less, times_large, rows_before, rows_fewer   products of a number of rows with their size
 --   shorter_front          what lies before a place up to which two arrays are equal
---   pairs_start, pairs_stop, pairs_on   the test of divisibility, exponent by exponent from the last
---   part_cons              rows from a place on: the first and the others
---   inside_stop, -on, -end, grows_stop, -on, -end   the tests over the rows that are left
---   head_byte, heads_start, heads_more, heads_same   the head of a row is its first byte; the largest head, row by row from the last
---   least_start, least_more   the least byte so far
-use mathlib.Core.Path.{◌≡◌, refl, sym, ap, ◌∙◌, subst}
-use mathlib.Core.Bool.{Bool, true, false}
+--   yields_downward, pairs_divide   numbers from the last to the first; the test of divisibility, exponent by exponent from the last
+--   any_rows               a test asked of rows in an array, row by row
+--   head_byte, heads_rows, heads_fit   the head of a row is its first byte; one more than the largest head, row by row; that it is at most 256
+use mathlib.Core.Path.{◌≡◌, refl, sym, ap, ◌∙◌}
+use mathlib.Core.Bool.{Bool, ◌||◌}
 use mathlib.Core.List.{List, [], ◌∷◌}
 use mathlib.Core.Logic.{by_cases}
 use native.Mathlib.Decide.{dec_lt}
 use Prim.Native.Nat.{ℕ, zero, suc, ◌+◌, ◌*◌, ◌-◌, ◌≤◌, ◌<◌}
+use Prim.Native.Nat.{max}
 use native.Mathlib.Nat.{not-suc-le-zero, mul-le-mul_right, add-mul}
 use native.Mathlib.Omega.{arith}
-use borrow.Author.Tests.{le-leb, lt-leb, le-ltb, lt-ltb}
+use borrow.Author.Tests.{le-ltb, lt-ltb}
 use lib.Dec.{leb}
-use lib.ListN.{length, take, drop, get_or, length-drop, drop_of_length-le}
-use lib.Seq.{length-take-le, get_or-take, get_or-drop, drop-drop, drop-cons, take-take}
-use Rattle.checks.specs.Tests.{each}
+use lib.ListN.{length, take, drop, get_or, length-drop}
+use lib.Seq.{length-take-le, get_or-take, get_or-drop, drop-drop, take-take}
+use Rattle.std.specs.List.{fold, list_any, list_all, range_with_len}
+use Rattle.std.specs.Iterator.Adapters.{rev_source, rev_steps}
+use Rattle.std.specs.declared.iter.Rev.{Rev}
+use Rattle.std.specs.declared.ops.Range.{Range}
+use Rattle.std.proofs.Common.{Some, None}
+use Rattle.std.proofs.iter.runs.Sources.{nat_range_steps_back}
+use Rattle.std.proofs.lemmas.Iterator.{YieldsList}
+use Rattle.std.proofs.lemmas.Iterator.Consumers.{YieldsList-from_shown}
+use Rattle.checks.specs.Tests.{each, any}
 use Rattle.terms.specs.Monomials.{Monomial, Table, ◌!◌, row_at}
-use Rattle.terms.specs.Ideal.{divides_test, inside_test}
+use Rattle.terms.specs.Ideal.{divides_test}
 use Rattle.terms.specs.Rows.{first_rows}
-use Rattle.terms.proofs.RowsLaws.{length_first_rows, first_rows_at}
-use Rattle.completion.specs.Slices.{heads, fresh}
+use Rattle.terms.proofs.RowsLaws.{first_rows_at}
+use Rattle.completion.specs.Slices.{heads}
 use Rattle.blocks.specs.Bytes.{part}
 
 -- ---- numbers
-
-pub times_pred : (k n : ℕ) → 0 < k → (k - 1) * n + n ≡ k * n
-times_pred zero n h = absurd (omega arith)
-times_pred (suc k) n h = let e : suc k - 1 ≡ k = omega arith in rw e (omega arith)
 
 pub times_large : (x n : ℕ) → 0 < n → x ≤ x * n
 times_large x zero h = absurd (not-suc-le-zero h)
@@ -52,73 +55,61 @@ rows_fewer x end n h = mul-le-mul_right n h
 pub shorter_front : (x y : ℕ) (b d : List ℕ) → x ≤ y → take y b ≡ take y d → take x b ≡ take x d
 shorter_front x y b d h e = sym (take-take x y b h) ∙ ap (λ (l : List ℕ). take x l) e ∙ take-take x y d h
 
--- ---- divisibility, exponent by exponent
+-- ---- divisibility, exponent by exponent from the last
 
--- the first `left` exponents at i do not exceed those at j
-abbrev pub pairs : List ℕ → ℕ → ℕ → ℕ → ℕ → Bool
-pairs b i j m left = each left (λ x. leb (take m (drop i b) ! x) (take m (drop j b) ! x))
+-- the numbers from a on, n of them, from the last
+abbrev pub downward : ℕ → ℕ → List ℕ
+downward a zero = []
+downward a (suc n) = (a + n) ∷ downward a n
 
-pub pairs_start : (b : List ℕ) (i j m : ℕ) → i + m ≤ length b → divides_test (take m (drop i b)) (take m (drop j b)) ≡ pairs b i j m m
-unfolding divides_test
-pairs_start b i j m h =
-    let l : length (take m (drop i b)) ≡ m = length-take-le m (drop i b) (rw length-drop (omega arith)) in
-    ap (λ (n : ℕ). each n (λ x. leb (take m (drop i b) ! x) (take m (drop j b) ! x))) l
+abbrev left : Rev (Range ℕ) → List ℕ
+left s = downward (rev_source s).start ((rev_source s).end - (rev_source s).start)
+
+-- what a range yields from its end
+pub yields_downward : {s : Rev (Range ℕ)} (n : ℕ) → rev_source s ≡ record { start = 0; end = n } →
+    YieldsList (rev_steps nat_range_steps_back) (λ x. x) s (downward 0 n)
+yields_downward {s} n e =
+    let all : left s ≡ downward 0 n = ap (λ (r : Range ℕ). downward r.start (r.end - r.start)) e ∙ ap (λ (k : ℕ). downward 0 k) (omega arith) in
+    rw all at (YieldsList-from_shown (rev_steps nat_range_steps_back) (λ x. x) left ended more s)
+  where
+    ended : (s t : Rev (Range ℕ)) → rev_steps nat_range_steps_back s None t → length (left s) ≡ 0
+    ended s t h = ap (λ (k : ℕ). length (downward (rev_source s).start k)) h.1.0
+
+    more : (s : Rev (Range ℕ)) (x : ℕ) (t : Rev (Range ℕ)) → rev_steps nat_range_steps_back s (Some x) t → left s ≡ x ∷ left t
+    more s x t h =
+        let k : ℕ = (rev_source t).end - (rev_source t).start in
+        let one : (rev_source s).end - (rev_source s).start ≡ suc k = omega arith in
+        let last : (rev_source s).start + k ≡ x = omega arith in
+        rw (one, last, h.0)
 
 byte_at : (b : List ℕ) (i m x : ℕ) → x < m → get_or (take m (drop i b)) x 0 ≡ get_or b (i + x) 0
 byte_at b i m x h = get_or-take m (drop i b) x 0 h ∙ get_or-drop i b x 0
 
-pub pairs_stop : (b : List ℕ) (i j m left : ℕ) → 0 < left → left ≤ m → get_or b (j + (left - 1)) 0 < get_or b (i + (left - 1)) 0 → pairs b i j m left ≡ false
-pairs_stop b i j m zero p h l = absurd (not-suc-le-zero p)
-pairs_stop b i j m (suc x) p h l =
-    let e : suc x - 1 ≡ x = omega arith in
-    let g : get_or b (j + x) 0 < get_or b (i + x) 0 = rw e at l in
-    rw (byte_at b i m x h, byte_at b j m x h, lt-leb _ _ g)
+pairs_each : (b : List ℕ) (i j m left : ℕ) → left ≤ m →
+    list_all (λ x. leb (get_or b (i + x) 0) (get_or b (j + x) 0)) (downward 0 left)
+    ≡ each left (λ x. leb (take m (drop i b) ! x) (take m (drop j b) ! x))
+pairs_each b i j m zero h = refl
+pairs_each b i j m (suc x) h =
+    let z : 0 + x ≡ x = omega arith in
+    rw (z, byte_at b i m x h, byte_at b j m x h, pairs_each b i j m x (omega arith))
 
-pub pairs_on : (b : List ℕ) (i j m left : ℕ) → 0 < left → left ≤ m → get_or b (i + (left - 1)) 0 ≤ get_or b (j + (left - 1)) 0 →
-    pairs b i j m left ≡ pairs b i j m (left - 1)
-pairs_on b i j m zero p h l = absurd (not-suc-le-zero p)
-pairs_on b i j m (suc x) p h l =
-    let e : suc x - 1 ≡ x = omega arith in
-    let g : get_or b (i + x) 0 ≤ get_or b (j + x) 0 = rw e at l in
-    rw (e, byte_at b i m x h, byte_at b j m x h, le-leb _ _ g)
+pub pairs_divide : (b : List ℕ) (i j m : ℕ) → i + m ≤ length b →
+    list_all (λ x. leb (get_or b (i + x) 0) (get_or b (j + x) 0)) (downward 0 m) ≡ divides_test (take m (drop i b)) (take m (drop j b))
+unfolding divides_test
+pairs_divide b i j m h =
+    let l : m ≡ length (take m (drop i b)) = sym (length-take-le m (drop i b) (rw length-drop (omega arith))) in
+    pairs_each b i j m m (omega arith) ∙ ap (λ (n : ℕ). each n (λ x. leb (take m (drop i b) ! x) (take m (drop j b) ! x))) l
 
 -- ---- rows from a place on
 
-pub part_cons : (n k from : ℕ) (b : List ℕ) → 0 < k → part n k from b ≡ take n (drop from b) ∷ part n (k - 1) (from + n) b
+pub any_rows : (m k from x : ℕ) (b : List ℕ) (f : Monomial → Bool) →
+    list_any (λ row. f (take m (drop (from + row * m) b))) (range_with_len x k) ≡ any f (part m k (from + x * m) b)
 unfolding first_rows
-part_cons n zero from b h = absurd (not-suc-le-zero h)
-part_cons n (suc k) from b h =
-    let e : suc k - 1 ≡ k = omega arith in
-    rw (e, drop-drop n from b)
-
--- ---- the tests over the rows that are left
-
-pub inside_stop : (m left from : ℕ) (b : List ℕ) (q : Monomial) → 0 < left → divides_test (take m (drop from b)) q ≡ true →
-    inside_test (part m left from b) q ≡ true
-unfolding inside_test
-inside_stop m left from b q p e = rw (part_cons m left from b p, e)
-
-pub inside_on : (m left from : ℕ) (b : List ℕ) (q : Monomial) → 0 < left → divides_test (take m (drop from b)) q ≡ false →
-    inside_test (part m left from b) q ≡ inside_test (part m (left - 1) (from + m) b) q
-unfolding inside_test
-inside_on m left from b q p e = rw (part_cons m left from b p, e)
-
-pub inside_end : (m from : ℕ) (b : List ℕ) (q : Monomial) → inside_test (part m 0 from b) q ≡ false
-unfolding inside_test first_rows
-inside_end m from b q = refl
-
-pub grows_stop : (G : Table) (m left from : ℕ) (b : List ℕ) → 0 < left → inside_test G (take m (drop from b)) ≡ false → fresh G (part m left from b) ≡ true
-unfolding fresh
-grows_stop G m left from b p e = rw (part_cons m left from b p, e)
-
-pub grows_on : (G : Table) (m left from : ℕ) (b : List ℕ) → 0 < left → inside_test G (take m (drop from b)) ≡ true →
-    fresh G (part m left from b) ≡ fresh G (part m (left - 1) (from + m) b)
-unfolding fresh
-grows_on G m left from b p e = rw (part_cons m left from b p, e)
-
-pub grows_end : (G : Table) (m from : ℕ) (b : List ℕ) → fresh G (part m 0 from b) ≡ false
-unfolding fresh first_rows
-grows_end G m from b = refl
+any_rows m zero from x b f = refl
+any_rows m (suc k) from x b f =
+    let e : from + (x + 1) * m ≡ from + x * m + m = omega arith in
+    ap (λ (r : Bool). f (take m (drop (from + x * m) b)) || r)
+    (any_rows m k from (x + 1) b f ∙ ap (λ (l : List ℕ). any f (first_rows m k l)) (ap (λ (y : ℕ). drop y b) e ∙ sym (drop-drop m (from + x * m) b)))
 
 -- ---- the largest head
 
@@ -127,49 +118,28 @@ head_byte m count x b h p =
     ap (λ (u : Monomial). u ! 1) (first_rows_at m count b x h)
     ∙ get_or-take m (drop (x * m) b) 0 0 p ∙ get_or-drop (x * m) b 0 0 ∙ ap (λ (k : ℕ). get_or b k 0) (omega arith)
 
-pub heads_last : (m count x : ℕ) (b : List ℕ) → x < count → drop x (first_rows m count b) ≡ row_at (first_rows m count b) x ∷ drop (suc x) (first_rows m count b)
-heads_last m count x b h = drop-cons (first_rows m count b) x [] (rw length_first_rows h)
-
-pub heads_start : (m count : ℕ) (b : List ℕ) → 0 ≡ heads (drop count (first_rows m count b))
+heads_cons : (u : Monomial) (G : Table) → heads (u ∷ G) ≡ max (u ! 1 + 1) (heads G)
 unfolding heads
-heads_start m count b =
-    let l : length (first_rows m count b) ≤ count = rw length_first_rows (omega arith) in
-    let e : drop count (first_rows m count b) ≡ [] = drop_of_length-le (first_rows m count b) {i = count} l in
-    rw e
+heads_cons u G = by_cases (dec_lt (u ! 1) (heads G))
+    (λ l. rw (lt-ltb _ _ l) (omega arith))
+    (λ l. let g : heads G ≤ u ! 1 = omega arith in rw (le-ltb _ _ g) (omega arith))
 
-heads_above : (u : Monomial) (G : Table) → heads G ≤ u ! 1 → heads (u ∷ G) ≡ suc (u ! 1)
-unfolding heads
-heads_above u G l = rw (le-ltb _ _ l)
+-- the head of a row is its first byte
+pub heads_rows : (m k x start : ℕ) (b : List ℕ) → 0 < m →
+    fold (λ (most row : ℕ). max most (get_or b (row * m) 0 + 1)) start (range_with_len x k) ≡ max start (heads (part m k (x * m) b))
+unfolding first_rows heads
+heads_rows m zero x start b p = omega arith
+heads_rows m (suc k) x start b p =
+    let u : Monomial = take m (drop (x * m) b) in
+    let G : Table = part m k ((x + 1) * m) b in
+    let head : u ! 1 ≡ get_or b (x * m) 0 = get_or-take m (drop (x * m) b) 0 0 p ∙ get_or-drop (x * m) b 0 0 ∙ ap (λ (y : ℕ). get_or b y 0) (omega arith) in
+    let e : (x + 1) * m ≡ x * m + m = omega arith in
+    let rows : part m (suc k) (x * m) b ≡ u ∷ G = ap (λ (l : List ℕ). u ∷ first_rows m k l) (drop-drop m (x * m) b ∙ ap (λ (y : ℕ). drop y b) (sym e)) in
+    heads_rows m k (x + 1) (max start (get_or b (x * m) 0 + 1)) b p
+    ∙ omega (arith, heads_cons u G, head, ap heads rows)
 
-heads_below : (u : Monomial) (G : Table) → u ! 1 < heads G → heads (u ∷ G) ≡ heads G
-unfolding heads
-heads_below u G l = rw (lt-ltb _ _ l)
-
-pub heads_more : (m count left : ℕ) (b : List ℕ) → 0 < left → left ≤ count → 0 < m → heads (drop left (first_rows m count b)) ≤ get_or b ((left - 1) * m) 0 →
-    get_or b ((left - 1) * m) 0 + 1 ≡ heads (drop (left - 1) (first_rows m count b))
-heads_more m count zero b p h q l = absurd (not-suc-le-zero p)
-heads_more m count (suc x) b p h q l =
-    let e : suc x - 1 ≡ x = omega arith in
-    let g : heads (drop (suc x) (first_rows m count b)) ≤ get_or b (x * m) 0 = rw e at l in
-    let r : row_at (first_rows m count b) x ! 1 ≡ get_or b (x * m) 0 = head_byte m count x b h q in
-    rw (e, heads_last m count x b h) (sym (heads_above (row_at (first_rows m count b) x) (drop (suc x) (first_rows m count b)) (omega arith) ∙ omega arith))
-
-pub heads_same : (m count left : ℕ) (b : List ℕ) → 0 < left → left ≤ count → 0 < m → get_or b ((left - 1) * m) 0 < heads (drop left (first_rows m count b)) →
-    heads (drop left (first_rows m count b)) ≡ heads (drop (left - 1) (first_rows m count b))
-heads_same m count zero b p h q l = absurd (not-suc-le-zero p)
-heads_same m count (suc x) b p h q l =
-    let e : suc x - 1 ≡ x = omega arith in
-    let g : get_or b (x * m) 0 < heads (drop (suc x) (first_rows m count b)) = rw e at l in
-    let r : row_at (first_rows m count b) x ! 1 ≡ get_or b (x * m) 0 = head_byte m count x b h q in
-    rw (e, heads_last m count x b h) (sym (heads_below (row_at (first_rows m count b) x) (drop (suc x) (first_rows m count b)) (omega arith)))
-
--- ---- the least byte
-
-pub least_start : (b : List ℕ) (x : ℕ) → x < 1 → get_or b 0 0 ≤ get_or b x 0
-least_start b zero h = omega arith
-least_start b (suc x) h = absurd (omega arith)
-
-pub least_more : (b : List ℕ) (i best new : ℕ) → ((x : ℕ) → x < i → best ≤ get_or b x 0) → new ≤ best → new ≤ get_or b i 0 → (x : ℕ) → x < i + 1 → new ≤ get_or b x 0
-least_more b i best new f l m x h = by_cases (dec_lt x i)
-    (λ p. omega (arith, f x p))
-    (λ p. let e : i ≡ x = omega arith in subst (λ (y : ℕ). new ≤ get_or b y 0) e m)
+-- heads are bytes
+pub heads_fit : (m k x start : ℕ) (b : List ℕ) → ((i : ℕ) → get_or b i 0 < 256) → start ≤ 256 →
+    fold (λ (most row : ℕ). max most (get_or b (row * m) 0 + 1)) start (range_with_len x k) ≤ 256
+heads_fit m zero x start b f l = l
+heads_fit m (suc k) x start b f l = heads_fit m k (x + 1) (max start (get_or b (x * m) 0 + 1)) b f (omega (arith, f (x * m)))

@@ -14,10 +14,10 @@ use mathlib.Core.List.Memᴰ
 use mathlib.Core.List.{List, [], ◌∷◌, ◌++◌, map, tail, map-append, append_assoc, append-nil}
 use Prim.Native.Nat.{ℕ, zero, suc, ◌+◌, ◌*◌, ◌-◌, ◌≤◌, ◌<◌}
 use native.Mathlib.Nat.{mul-le-mul_right, add-mul}
-use native.Mathlib.Numerals.{add-one}
 use native.Mathlib.Omega.{arith}
 use lib.ListN.{length, take, drop, set, length-append, length-drop, length-set, length-map, take-append-drop}
 use lib.Seq.{paste, length-take-le, drop-drop, take-take, take_at, drop_at, set-append_left, take-paste}
+use Rattle.std.proofs.Common.{None}
 use Rattle.terms.specs.Monomials.{Monomial, Table, OfSize}
 use Rattle.terms.specs.Rows.{first_rows, flat}
 use Rattle.terms.proofs.RowsLaws.{length_first_rows, first_rows_size, first_rows_flat, flat_first_rows, length_flat}
@@ -26,7 +26,7 @@ use Rattle.blocks.specs.Bytes.{after, fit, part, copies}
 use Rattle.completion.proofs.BlockLaws.{cons_same}
 use Rattle.writing.proofs.CopyLaws.{pasted_front}
 use Rattle.blocks.proofs.ByteLaws.{rows_before, rows_fewer, shorter_front}
-use Rattle.blocks.proofs.BufferLaws.{flat_append, after_append, after_set, fit_beyond}
+use Rattle.blocks.proofs.BufferLaws.{flat_append, after_append, after_set, fit_more}
 
 -- ---- parts
 
@@ -107,11 +107,6 @@ module _ (out : List ℕ) (n k first e : ℕ) where
       let t : length (take (first * n) out) ≡ first * n = length-take-le (first * n) out (omega arith) in
       length-append (take (first * n) out) (flat (map (λ u. set u k e) G)) ∙ rw (t, l, m) (sym s)
 
-  pub columned_length : (i : ℕ) → (first + i) * n ≤ length out → length (columned out n k first e i) ≡ length out
-  columned_length i h =
-      length-append (take (first * n) out ++ flat (map (λ u. set u k e) (part n i (first * n) out))) (drop ((first + i) * n) out)
-      ∙ rw (columned_front i h, length-drop) (omega arith)
-
   pub columned_start : out ≡ columned out n k first e 0
   unfolding first_rows flat
   columned_start =
@@ -144,14 +139,6 @@ module _ (out : List ℕ) (n k first e : ℕ) where
       ∙ flat_append (map (λ u. set u k e) G) (set r k e ∷ [])
       ∙ ap (λ (l : List ℕ). flat (map (λ u. set u k e) G) ++ l) (append-nil (set r k e)) in
       left ∙ rw (next, bytes) (simp append_assoc)
-
-  pub columned_take : (b : List ℕ) (i count : ℕ) → i ≡ count → (first + count) * n ≤ length out → b ≡ columned out n k first e i →
-      take ((first + count) * n) b ≡ take (first * n) out ++ flat (map (λ u. set u k e) (part n count (first * n) out))
-  columned_take b i count p h q =
-      let c : b ≡ columned out n k first e count = q ∙ ap (λ (x : ℕ). columned out n k first e x) p in
-      ap (λ (l : List ℕ). take ((first + count) * n) l) c
-      ∙ take_at (take (first * n) out ++ flat (map (λ u. set u k e) (part n count (first * n) out))) (drop ((first + count) * n) out)
-      ((first + count) * n) (columned_front count h)
 
 -- ---- a block once more
 
@@ -267,10 +254,9 @@ copies_next k b e count S h l =
     let s : e + 1 - b ≡ suc (e - b) = omega arith in
     rw s (length-append (copies k b (e - b) S) (map (λ u. set u k (b + (e - b))) S) ∙ omega (arith, length-map S (λ u. set u k (b + (e - b)))))
 
-pub repeat_beyond : (k b a e stop count end room : ℕ) (S : Table) → b ≤ e → e < a → length S ≡ count → end ≡ stop + length (copies k b (e - b) S) →
-    room < end + count → room + 1 ≡ fit room (stop + length (copies k b (a - b) S))
-repeat_beyond k b a e stop count end room S h l s p q =
+pub repeat_beyond : (n size k b a e stop count end : ℕ) (S : Table) → b ≤ e → e < a → length S ≡ count → end ≡ stop + length (copies k b (e - b) S) →
+    size < (end + count) * n → None ≡ fit n size (stop + length (copies k b (a - b) S))
+repeat_beyond n size k b a e stop count end S h l s p q =
     let m : suc (e - b) * length S ≤ (a - b) * length S = mul-le-mul_right (length S) (omega arith) in
     let t : suc (e - b) * length S ≡ (e - b) * length S + length S = omega arith in
-    let g : room < stop + length (copies k b (a - b) S) = omega (arith, length_copies k b (a - b) S, length_copies k b (e - b) S) in
-    sym (fit_beyond room (stop + length (copies k b (a - b) S)) g ∙ sym (add-one room))
+    sym (fit_more n size (end + count) _ q (omega (arith, length_copies k b (a - b) S, length_copies k b (e - b) S)))

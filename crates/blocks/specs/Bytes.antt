@@ -6,8 +6,8 @@
 --   next_row a i G       where the next row with head a stands
 --   Linked, Firsts       rows chained by head
 --   after p H            the rows of H with the exponents p before each: what is appended behind the first exponents p of a row
---   fit room e           the end e of what is written, or room + 1 where it is beyond the room
-use Rattle.std.specs.Prelude.{◌≡◌, List, [], ◌∷◌, ◌++◌, map, ℕ, zero, suc, ◌+◌, ◌<◌, leb, eqb, length, drop, get_or, set}
+--   fit n size e         e, the number of rows of n bytes that are written, or none where they do not fit `size` bytes
+use Rattle.std.specs.Prelude.{◌≡◌, List, [], ◌∷◌, ◌++◌, map, ℕ, zero, suc, ◌+◌, ◌*◌, ◌<◌, Option, Some, None, leb, eqb, length, drop, get_or, set}
 use Rattle.checks.specs.Tests.{pick}
 use Rattle.terms.specs.Monomials.{Monomial, Table, ◌!◌, row_at}
 use Rattle.terms.specs.Rows.{first_rows}
@@ -35,5 +35,5 @@ Firsts T first = (a : ℕ) → a < 256 → get_or first a 0 ≡ next_row a 0 T
 unfoldable pub after : Monomial → Table → Table
 after p H = map (λ t. p ++ t) H
 
-unfoldable pub fit : ℕ → ℕ → ℕ
-fit room e = pick (leb e room) e (suc room)
+unfoldable pub fit : ℕ → ℕ → ℕ → Option ℕ
+fit n size e = pick (leb (e * n) size) (Some e) None

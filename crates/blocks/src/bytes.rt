@@ -7,12 +7,6 @@ pub fn divides_at(m: usize, bytes: &[u8], i: usize, j: usize) -> bool
     requires { (i + m ≤ length bytes.now) × (j + m ≤ length bytes.now) }
     ensures { result ≡ divides_test (take m (drop i bytes.now)) (take m (drop j bytes.now)) }
 {
-    let mut left = m;
-    while 0 < left {
-        left -= 1;
-        if bytes[j + left] < bytes[i + left] {
-            return false;
-        }
-    }
-    true
+    // From the last exponent on: of rows that stand in order, most pairs fail there sooner.
+    (0..m).rev().all(|x| bytes[i + x] <= bytes[j + x])
 }

@@ -11,16 +11,7 @@ fn inside_ideal(m: usize, bytes: &[u8], from: usize, count: usize, q: usize) -> 
     requires { (from + count * m ≤ length bytes.now) × (q + m ≤ length bytes.now) }
     ensures { result ≡ inside_test (part m count from bytes.now) (take m (drop q bytes.now)) }
 {
-    let mut place = from;
-    let mut left = count;
-    while 0 < left {
-        if divides_at(m, bytes, place, q) {
-            return true;
-        }
-        place += m;
-        left -= 1;
-    }
-    false
+    (0..count).any(|row| divides_at(m, bytes, from + row * m, q))
 }
 
 // Whether one of the `more` rows behind the `count` rows lies outside the ideal of these.
@@ -28,14 +19,6 @@ pub fn grows(m: usize, bytes: &[u8], from: usize, count: usize, more: usize) -> 
     requires { from + count * m + more * m ≤ length bytes.now }
     ensures { result ≡ fresh (part m count from bytes.now) (part m more (from + count * m) bytes.now) }
 {
-    let mut place = from + count * m;
-    let mut left = more;
-    while 0 < left {
-        if !inside_ideal(m, bytes, from, count, place) {
-            return true;
-        }
-        place += m;
-        left -= 1;
-    }
-    false
+    let behind = from + count * m;
+    (0..more).any(|row| !inside_ideal(m, bytes, from, count, behind + row * m))
 }

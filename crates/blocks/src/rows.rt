@@ -1,5 +1,5 @@
 // Blocks of rows: a column set, a block repeated under further heads, its endings copied.
-ghost use Rattle.std.specs.Prelude.{◌≡◌, ◌++◌, map, suc, ◌+◌, ◌*◌, ◌-◌, ◌≤◌, ◌<◌, length, take, drop, set};
+ghost use Rattle.std.specs.Prelude.{◌≡◌, ◌++◌, map, suc, ◌+◌, ◌*◌, ◌-◌, ◌≤◌, ◌<◌, IfSome, length, take, drop, set};
 ghost use Rattle.terms.specs.Rows.{flat};
 ghost use Rattle.blocks.specs.Bytes.{part, copies, fit};
 
@@ -12,12 +12,8 @@ fn set_column(n: usize, out: &mut [u8], i: Variable, first: RowNumber, count: us
     ensures { take ((first.0 + count) * n) out.new
         ≡ take (first.0 * n) out.old ++ flat (map (λ u. set u (i.0 - 1) e) (part n count (first.0 * n) out.old)) }
 {
-    let row = first.0;
-    let place = i.0 - 1;
-    let mut j = 0;
-    while j < count {
-        out[(row + j) * n + place] = e;
-        j += 1;
+    for row in first.0..first.0 + count {
+        out[row * n + (i.0 - 1)] = e;
     }
 }
 
@@ -40,7 +36,7 @@ fn copy_block(
 }
 
 // The block of the rows from `first` to `stop`, that of the head `last` at variable i, once more under each head between `last` and a; the new end,
-// room + 1 where they do not fit.
+// None where they do not fit.
 pub fn repeat_block(
     n: usize,
     out: &mut [u8],
@@ -49,27 +45,23 @@ pub fn repeat_block(
     stop: RowNumber,
     last: usize,
     a: usize,
-    room: usize,
-) -> usize
-    requires { (first.0 ≤ stop.0) × (stop.0 ≤ room) × (room * n ≤ length out.old) × (room ≤ 4096) × (0 < i.0) × (i.0 ≤ n)
-        × (a ≤ 256) × (last ≤ 256) }
-    ensures { (result ≡ fit room (stop.0
+) -> Option<usize>
+    requires { (first.0 ≤ stop.0) × (stop.0 * n ≤ length out.old) × (0 < i.0) × (i.0 ≤ n) × (a ≤ 256) × (last ≤ 256) }
+    ensures { (result ≡ fit n (length out.old) (stop.0
         + length (copies (i.0 - 1) (suc last) (a - suc last) (part n (stop.0 - first.0) (first.0 * n) out.old))))
-        × (result ≤ room → take (result * n) out.new ≡ take (stop.0 * n) out.old
+        × IfSome result (λ end. take (end * n) out.new ≡ take (stop.0 * n) out.old
         ++ flat (copies (i.0 - 1) (suc last) (a - suc last) (part n (stop.0 - first.0) (first.0 * n) out.old))) }
 {
     let count = stop.0 - first.0;
     let mut end = stop.0;
-    let mut e = last + 1;
-    while e < a {
-        if room < end + count {
-            return room + 1;
+    for head in last + 1..a {
+        if out.len() < (end + count) * n {
+            return None;
         }
-        copy_block(n, out, i, first, count, RowNumber(end), e as u8);
+        copy_block(n, out, i, first, count, RowNumber(end), head as u8);
         end += count;
-        e += 1;
     }
-    end
+    Some(end)
 }
 
 // Writes the last `rest` exponents of the count rows of n bytes from row `first` of out on to place `to`.
@@ -86,10 +78,13 @@ pub fn copy_ends(
     ensures { take (to + count * rest) bytes.new
         ≡ take to bytes.old ++ flat (map (λ u. drop (n - rest) u) (part n count (first.0 * n) out.now)) }
 {
-    let row = first.0;
-    let mut i = 0;
-    while i < count {
-        copy_from(bytes, to + i * rest, out, (row + i) * n + (n - rest), rest);
-        i += 1;
+    for row in 0..count {
+        copy_from(
+            bytes,
+            to + row * rest,
+            out,
+            (first.0 + row) * n + (n - rest),
+            rest,
+        );
     }
 }

@@ -1,6 +1,7 @@
 -- What an accepted bundle determines.
 --
 --   Laid, laid               what is known of a bundle whose layout passed: frame, each table's rows and place, its end
+--   laying, accepting        what is known of the frame of such a bundle and of an accepted one, fact by fact, as sets
 --   from_place               what stands from body j on is body j and what stands from the next on
 --   entries_here             4 over all bodies is one pass over what stands behind the header
 --   Accepted, accepted_bundle, bundle_accepted   what is known of an accepted bundle, and that this is enough
@@ -33,6 +34,7 @@ use Rattle.distinct.proofs.CheckLaws.{refuses_distinct}
 use Rattle.bundle.specs.Format.{variables_of, table_count, header_length, row_count, offset_of, body_length, place_of, body_of, table_of}
 use Rattle.bundle.specs.Checks.{LargeEntry, large_entry_test, tests_large_entry, frame_checks, table_checks_of, tables_checks, remain_checks, layout_checks}
 use Rattle.bundle.specs.Checks.{EqualRowsIn, body_checks, bundle_checks}
+use Rattle.bundle.specs.declared.Located.{Located}
 use Rattle.bundle.proofs.CheckLaws.{Framed, framed_accepts, has_frame, frame_passes, TableLaid, tables_laid, table_passes}
 
 -- ---- the layout
@@ -66,6 +68,16 @@ laid_accepts b a =
 
 pub laid : (b : List ℕ) → refusal (layout_checks b) ≡ 0 → Laid b
 laid b e = laid_accepts b (accepted (layout_checks b) e)
+
+-- of its frame, fact by fact
+module _ (b : List ℕ) (e : refusal (layout_checks b) ≡ 0) where
+  pub laid_long : 2 ≤ length b
+  laid_long = (laid b e).frame.long
+
+  pub laid_header : header_length b ≤ length b
+  laid_header = (laid b e).frame.header
+
+pub ruleset laying = (laid_long, laid_header)
 
 -- ---- 4 over all bodies
 
@@ -142,10 +154,22 @@ accepted_by b a =
 pub accepted_bundle : (b : List ℕ) → refusal (bundle_checks b) ≡ 0 → Accepted b
 accepted_bundle b e = accepted_by b (accepted (bundle_checks b) e)
 
+-- of its frame, fact by fact
+module _ (b : List ℕ) (e : refusal (bundle_checks b) ≡ 0) where
+  pub accepted_long : 2 ≤ length b
+  accepted_long = (accepted_bundle b e).layout.frame.long
+
+  pub accepted_header : header_length b ≤ length b
+  accepted_header = (accepted_bundle b e).layout.frame.header
+
+pub ruleset accepting = (accepted_long, accepted_header)
+
 -- ---- and this is enough: a bundle of which it holds is accepted
 
 table_enough : (b : List ℕ) (j : ℕ) → TableLaid b j → refusal (table_checks_of b j) ≡ 0
-table_enough b j t = sym (table_passes b j (row_count b j) (offset_of b j) refl refl t.limited t.begins t.within)
+table_enough b j t =
+    let entry : Located = record { n = variables_of b; rows = row_count b j; place = offset_of b j } in
+    sym (table_passes b j entry (record { variables = refl; count = refl; begins = refl }) t.limited t.begins t.within)
 
 tables_enough : (b : List ℕ) (m j : ℕ) → ((i : ℕ) → j ≤ i → i < j + m → TableLaid b i) → refusal (tables_checks b j m) ≡ 0
 unfolding tables_checks

@@ -14,8 +14,8 @@ use native.Mathlib.Omega.{arith}
 use lib.Dec.{lit<}
 use lib.ListN.{length, get_or, take, drop, take-append-drop, drop_of_length-le}
 use lib.Seq.{drop-drop, drop-cons}
-use Rattle.bundle.specs.Format.{byte_at, number16, variables_of, table_count, row_count, offset_of, place_of, table_of, tables_from, tables_of, Bytes, low, high}
-use Rattle.bundle.specs.Format.{counts_of, entries_of, bodies_of, bundle_of}
+use Rattle.bundle.specs.Format.{byte_at, number16, variables_of, table_count, row_count, offset_of, place_of, table_of, tables_from, tables_of, Bytes}
+use Rattle.bundle.specs.Format.{low, high, counts_of, entries_of, bodies_of, bundle_of}
 use Rattle.bundle.proofs.AcceptedLaws.{Laid, Accepted, from_place, length_table, flat_table}
 
 -- ---- the two bytes of a number

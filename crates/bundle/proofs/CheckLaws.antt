@@ -1,6 +1,7 @@
 -- Laws of the bundle's checks: what the code asks, step by step, is the list of checks in its order.
 --
 --   Framed, framed           what is known of a bundle that passed 9 and 1
+--   framing                  the same fact by fact, and that a body's length fits, as one set
 --   frame_nine, frame_one, frame_passes   which check of the frame refuses
 --   table_three, table_ten, table_eleven, table_passes   which check of one table refuses
 --   TableLaid, table_laid    what is known of a table that passed 3, 10 and 11
@@ -10,7 +11,7 @@ use mathlib.Core.Path.{◌≡◌, sym, ap, ◌∙◌, subst}
 use mathlib.Core.List.{List, [], ◌++◌, append_assoc}
 use mathlib.Core.Logic.{inl, inr, ⊎_elim, by_cases}
 use Prim.Native.Nat.{ℕ, zero, suc, ◌+◌, ◌*◌, ◌-◌, ◌≤◌, ◌<◌}
-use native.Mathlib.Nat.{mul-le-mul, pos_of_ne-zero}
+use native.Mathlib.Nat.{mul-le-mul}
 use native.Mathlib.Numerals.{add-one}
 use native.Mathlib.Decide.{ℕ_discrete}
 use native.Mathlib.Omega.{arith}
@@ -20,8 +21,10 @@ use Rattle.checks.specs.Refusals.{Check, refusal, Accepts}
 use Rattle.terms.specs.TableChecks.{NotOneToSix}
 use Rattle.checks.proofs.RefusalLaws.{refusal_none, refusal_holds, refusal_passes, refusal_append, refusal_first, accepted, accepts_head, accepts_tail}
 use Rattle.checks.proofs.RefusalLaws.{accepts_left, accepts_right}
-use Rattle.bundle.specs.Format.{number16, variables_of, table_count, header_length, row_count, offset_of, body_length, place_of}
+use Rattle.bundle.specs.Format.{variables_of, table_count, header_length, row_count, offset_of, body_length, place_of}
 use Rattle.bundle.specs.Checks.{NoFrame, frame_checks, table_checks_of, tables_checks, remain_checks}
+use Rattle.bundle.specs.Operation.{Entered}
+use Rattle.bundle.specs.declared.Located.{Located}
 
 -- ---- the frame
 
@@ -53,6 +56,23 @@ framed_accepts b a = framed_by b (accepts_head _ _ a) (accepts_head _ _ (accepts
 
 pub framed : (b : List ℕ) → refusal (frame_checks b) ≡ 0 → Framed b
 framed b e = framed_accepts b (accepted (frame_checks b) e)
+
+-- the same fact by fact
+module _ (b : List ℕ) (e : refusal (frame_checks b) ≡ 0) where
+  pub framed_long : 2 ≤ length b
+  framed_long = (framed b e).long
+
+  pub framed_short : length b ≤ 65535
+  framed_short = (framed b e).short
+
+  pub framed_sixteen : table_count b ≤ 16
+  framed_sixteen = (framed b e).sixteen
+
+  pub framed_header : header_length b ≤ length b
+  framed_header = (framed b e).header
+
+  pub framed_six : variables_of b ≤ 6
+  framed_six = (framed b e).six
 
 module _ (b : List ℕ) where
   pub frame_nine : NoFrame b → 9 ≡ refusal (frame_checks b)
@@ -92,7 +112,8 @@ module _ (b : List ℕ) (j k : ℕ) (rest : List Check) where
       ∙ refusal_first (table_checks_of b j) (tables_checks b (j + 1) (k - (j + 1)) ++ rest) p
 
   -- table j passes, so the others decide
-  pub goes_on_lem : j < k → refusal (table_checks_of b j) ≡ 0 → refusal (tables_checks b j (k - j) ++ rest) ≡ refusal (tables_checks b (j + 1) (k - (j + 1)) ++ rest)
+  pub goes_on_lem : j < k → refusal (table_checks_of b j) ≡ 0
+      → refusal (tables_checks b j (k - j) ++ rest) ≡ refusal (tables_checks b (j + 1) (k - (j + 1)) ++ rest)
   goes_on_lem h e =
       ap (λ (l : List Check). refusal (l ++ rest)) (tables_next b j k h)
       ∙ ap refusal (append_assoc (table_checks_of b j) (tables_checks b (j + 1) (k - (j + 1))) rest)
@@ -105,39 +126,36 @@ module _ (b : List ℕ) (j k : ℕ) (rest : List Check) where
 pub body_bound : (rows n : ℕ) → rows ≤ 65535 → n ≤ 6 → rows * n ≤ 393210
 body_bound rows n h g = mul-le-mul h g
 
--- the numbers read are the table's
-pub reads_rows : (b : List ℕ) (j rows : ℕ) → rows ≡ number16 b (2 + 4 * j) → rows ≡ row_count b j
-unfolding row_count
-reads_rows b j rows r = r
+pub ruleset framing = (framed_long, framed_short, framed_sixteen, framed_header, framed_six, body_bound)
 
-pub reads_offset : (b : List ℕ) (j offset : ℕ) → offset ≡ number16 b (4 + 4 * j) → offset ≡ offset_of b j
-unfolding offset_of
-reads_offset b j offset o = o
+-- the entry of a table, and the first check that refuses it
+module _ (b : List ℕ) (j : ℕ) (f : Located) (e : Entered b j f) where
+  size : f.rows * f.n ≡ body_length b j
+  size = rw (e.count, e.variables)
 
-module _ (b : List ℕ) (j rows offset : ℕ) (r : rows ≡ row_count b j) (o : offset ≡ offset_of b j) where
-  pub table_three : 4096 < rows → 3 ≡ refusal (table_checks_of b j)
-  table_three h = sym (refusal_holds _ _ (rw r at h))
+  pub table_three : 4096 < f.rows → 3 ≡ refusal (table_checks_of b j)
+  table_three h = sym (refusal_holds _ _ (rw e.count at h))
 
-  pub table_ten : rows ≤ 4096 → (offset ≡ place_of b j → ⊥) → 10 ≡ refusal (table_checks_of b j)
-  table_ten l h =
-      let p : (4096 < row_count b j) → ⊥ = λ x. omega (arith, r) in
-      let q : (offset_of b j ≡ place_of b j) → ⊥ = λ x. h (o ∙ x) in
-      sym (refusal_passes _ _ p ∙ refusal_holds _ _ q)
+  module _ (limited : f.rows ≤ 4096) where
+    not_three : 4096 < row_count b j → ⊥
+    not_three h = omega (arith, e.count)
 
-  pub table_eleven : rows ≤ 4096 → offset ≡ place_of b j → length b < place_of b j + rows * variables_of b → 11 ≡ refusal (table_checks_of b j)
-  table_eleven l e h =
-      let p : (4096 < row_count b j) → ⊥ = λ x. omega (arith, r) in
-      let q : ((offset_of b j ≡ place_of b j) → ⊥) → ⊥ = λ x. x (sym o ∙ e) in
-      let s : length b < place_of b j + body_length b j = rw r at h in
-      sym (refusal_passes _ _ p ∙ refusal_passes _ _ q ∙ refusal_holds _ _ s)
+    pub table_ten : (f.place ≡ place_of b j → ⊥) → 10 ≡ refusal (table_checks_of b j)
+    table_ten h =
+        let other : offset_of b j ≡ place_of b j → ⊥ = λ x. h (e.begins ∙ x) in
+        sym (refusal_passes _ _ not_three ∙ refusal_holds _ _ other)
 
-  pub table_passes : rows ≤ 4096 → offset ≡ place_of b j → place_of b j + rows * variables_of b ≤ length b → 0 ≡ refusal (table_checks_of b j)
-  table_passes l e h =
-      let p : (4096 < row_count b j) → ⊥ = λ x. omega (arith, r) in
-      let q : ((offset_of b j ≡ place_of b j) → ⊥) → ⊥ = λ x. x (sym o ∙ e) in
-      let w : place_of b j + body_length b j ≤ length b = rw r at h in
-      let s : length b < place_of b j + body_length b j → ⊥ = λ x. omega arith in
-      sym (refusal_passes _ _ p ∙ refusal_passes _ _ q ∙ refusal_passes _ _ s ∙ refusal_none)
+    module _ (begins : f.place ≡ place_of b j) where
+      not_ten : (offset_of b j ≡ place_of b j → ⊥) → ⊥
+      not_ten h = h (sym e.begins ∙ begins)
+
+      pub table_eleven : length b < place_of b j + f.rows * f.n → 11 ≡ refusal (table_checks_of b j)
+      table_eleven h = sym (refusal_passes _ _ not_three ∙ refusal_passes _ _ not_ten ∙ refusal_holds _ _ (rw size at h))
+
+      pub table_passes : place_of b j + f.rows * f.n ≤ length b → 0 ≡ refusal (table_checks_of b j)
+      table_passes h =
+          let not_eleven : length b < place_of b j + body_length b j → ⊥ = λ x. omega (arith, size) in
+          sym (refusal_passes _ _ not_three ∙ refusal_passes _ _ not_ten ∙ refusal_passes _ _ not_eleven ∙ refusal_none)
 
 -- what passed the checks of one table
 pub record TableLaid (b : List ℕ) (j : ℕ) : Type 0 where
@@ -158,48 +176,50 @@ pub table_laid : (b : List ℕ) (j : ℕ) → refusal (table_checks_of b j) ≡ 
 table_laid b j e = table_laid_accepts b j (accepted (table_checks_of b j) e)
 
 -- the loop over the tables, at table j: the place is where its body must begin, and the checks from it on decide
-pub record Passed (b : List ℕ) (k place j : ℕ) : Type 0 where
-  pub below : j ≤ k
+pub record Passed (b : List ℕ) (place j : ℕ) : Type 0 where
+  pub below : j ≤ table_count b
   pub here : place ≡ place_of b j
   pub within : place ≤ length b
-  pub same : refusal (tables_checks b 0 k ++ remain_checks b) ≡ refusal (tables_checks b j (k - j) ++ remain_checks b)
+  pub same : refusal (tables_checks b 0 (table_count b) ++ remain_checks b) ≡ refusal (tables_checks b j (table_count b - j) ++ remain_checks b)
 
-module _ (b : List ℕ) (k : ℕ) (count : k ≡ table_count b) where
-  pub passed_first : Framed b → Passed b k (2 + 4 * k) 0
+module _ (b : List ℕ) where
+  pub passed_first : (place : ℕ) → Framed b → place ≡ header_length b → Passed b place 0
   unfolding place_of
-  passed_first f = record { below = omega arith; here = rw count; within = omega (arith, f.header); same = let e : k - 0 ≡ k = omega arith in rw e }
+  passed_first place f h =
+      record { below = omega arith; here = h; within = omega (arith, f.header); same = let e : table_count b - 0 ≡ table_count b = omega arith in rw e }
 
-  pub passed_next : (place j rows n : ℕ) → Passed b k place j → j < k → 0 ≡ refusal (table_checks_of b j)
-      → rows ≡ number16 b (2 + 4 * j) → n ≡ variables_of b → Passed b k (place + rows * n) (j + 1)
-  unfolding place_of row_count
-  passed_next place j rows n p h e r v =
-      let t = table_laid b j (sym e) in
-      let w : place + rows * n ≡ place_of b j + body_length b j = rw (p.here, r, v) in
-      record {
-        below = omega arith;
-        here = w ∙ rw (add-one j);
-        within = omega (arith, t.within);
-        same = p.same ∙ goes_on_lem b j k (remain_checks b) h (sym e);
-      }
+  module _ (place j : ℕ) (p : Passed b place j) where
+    pub passed_next : j < table_count b → (f : Located) → Entered b j f → 0 ≡ refusal (table_checks_of b j) → Passed b (place + f.rows * f.n) (j + 1)
+    unfolding place_of
+    passed_next h f e z =
+        let t = table_laid b j (sym z) in
+        let w : place + f.rows * f.n ≡ place_of b j + body_length b j = rw (p.here, size b j f e) in
+        record {
+          below = omega arith;
+          here = w ∙ rw (add-one j);
+          within = omega (arith, t.within);
+          same = p.same ∙ goes_on_lem b j (table_count b) (remain_checks b) h (sym z);
+        }
 
-  module _ (place j : ℕ) (p : Passed b k place j) where
-    pub passed_refuses : (m : ℕ) → j < k → m ≡ refusal (table_checks_of b j) → (m ≡ 0 → ⊥) → m ≡ refusal (tables_checks b 0 k ++ remain_checks b)
-    passed_refuses m h e f = e ∙ sym (refuses_here b j k (remain_checks b) h (rw e at (pos_of_ne-zero f))) ∙ sym p.same
+    pub passed_refuses : j < table_count b → (m : ℕ) → 0 < m → m ≡ refusal (table_checks_of b j)
+        → m ≡ refusal (tables_checks b 0 (table_count b) ++ remain_checks b)
+    passed_refuses h m q e = e ∙ sym (refuses_here b j (table_count b) (remain_checks b) h (rw e at q)) ∙ sym p.same
 
-    at_end : k ≤ j → place_of b (table_count b) ≡ place
-    at_end h =
-        let e : table_count b ≡ j = omega (arith, p.below) in
-        rw e (sym p.here)
+    module _ (h : table_count b ≤ j) where
+      at_end : place_of b (table_count b) ≡ place
+      at_end =
+          let e : table_count b ≡ j = omega (arith, p.below) in
+          rw e (sym p.here)
 
-    pub passed_remain : k ≤ j → place < length b → 11 ≡ refusal (tables_checks b 0 k ++ remain_checks b)
-    passed_remain h l =
-        let r : place_of b (table_count b) < length b = omega (arith, at_end h) in
-        sym (p.same ∙ past_last b j k (remain_checks b) h ∙ refusal_holds _ _ r)
+      pub passed_remain : place < length b → 11 ≡ refusal (tables_checks b 0 (table_count b) ++ remain_checks b)
+      passed_remain l =
+          let r : place_of b (table_count b) < length b = omega (arith, at_end) in
+          sym (p.same ∙ past_last b j (table_count b) (remain_checks b) h ∙ refusal_holds _ _ r)
 
-    pub passed_all : k ≤ j → length b ≤ place → 0 ≡ refusal (tables_checks b 0 k ++ remain_checks b)
-    passed_all h l =
-        let r : place_of b (table_count b) < length b → ⊥ = λ x. omega (arith, at_end h) in
-        sym (p.same ∙ past_last b j k (remain_checks b) h ∙ refusal_passes _ _ r ∙ refusal_none)
+      pub passed_all : length b ≤ place → 0 ≡ refusal (tables_checks b 0 (table_count b) ++ remain_checks b)
+      passed_all l =
+          let r : place_of b (table_count b) < length b → ⊥ = λ x. omega (arith, at_end) in
+          sym (p.same ∙ past_last b j (table_count b) (remain_checks b) h ∙ refusal_passes _ _ r ∙ refusal_none)
 
 -- where the checks of the tables j to j + m − 1 pass, each of these tables is laid
 pub tables_laid : (b : List ℕ) (m j : ℕ) → Accepts (tables_checks b j m) → (i : ℕ) → j ≤ i → i < j + m → TableLaid b i

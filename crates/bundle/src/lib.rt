@@ -2,33 +2,28 @@
 #![tactic(auto)]
 
 ghost use Rattle.std.specs.Prelude.{◌≡◌, ◌++◌, ◌+◌, ◌*◌, ◌≤◌, ◌<◌, length};
+ghost use Rattle.checks.specs.Outcomes.{number_of};
 ghost use Rattle.checks.specs.Refusals.{refusal};
 ghost use Rattle.distinct.specs.EqualRows.{equal_rows_test};
-ghost use Rattle.bundle.specs.Format.{byte_at, number16, variables_of, table_count, place_of, table_of};
+ghost use Rattle.bundle.specs.Format.{number16, table_count, place_of, table_of};
 ghost use Rattle.bundle.specs.Checks.{LargeEntry, equal_rows_in_test};
 ghost use Rattle.bundle.specs.Checks.{frame_checks, table_checks_of, tables_checks, remain_checks, layout_checks, bundle_checks};
-ghost use Rattle.bundle.specs.Operation.{LocatePromise, FoundWithin, PartOf, OpenPromise};
+ghost use Rattle.bundle.specs.Operation.{Entered, LocatePromise, FoundWithin, PartOf, OpenPromise};
+
+use checks::Refusal;
+use terms::FlatTable;
 
 // The most bytes of a bundle, and the most tables.
 pub const MOST_BYTES: usize = 65535;
 
 pub const MOST_TABLES: usize = 16;
 
-// Where a table stands: its n, its row count and the place where its bytes begin; the numbers beside a refusal are 0.
+// Where a table stands: its n, its row count and the place where its bytes begin.
 #[derive(Clone, Copy)]
 pub struct Located {
-    pub refusal: u8,
     pub n: usize,
     pub rows: usize,
     pub place: usize,
-}
-
-// The byte at i.
-fn byte_at(bundle: &[u8], i: usize) -> usize
-    requires { i < length bundle.now }
-    ensures { (result ≡ byte_at bundle.now i) × (result < 256) }
-{
-    bundle[i] as usize
 }
 
 // The 16-bit number at i, low byte first.
@@ -36,213 +31,177 @@ fn read16(bundle: &[u8], i: usize) -> usize
     requires { i + 1 < length bundle.now }
     ensures { (result ≡ number16 bundle.now i) × (result < 65536) }
 {
-    let low = byte_at(bundle, i);
-    let high = byte_at(bundle, i + 1);
-    low + 256 * high
+    usize::from(u16::from_le_bytes([bundle[i], bundle[i + 1]]))
+}
+
+// Where table j stands, as the header says.
+fn read_entry(bundle: &[u8], j: usize) -> Located
+    requires { 5 + 4 * j < length bundle.now }
+    ensures { Entered bundle.now j result × (result.rows < 65536) }
+{
+    Located {
+        n: usize::from(bundle[0]),
+        rows: read16(bundle, 2 + 4 * j),
+        place: read16(bundle, 4 + 4 * j),
+    }
 }
 
 // The checks of the frame: 9, then 1.
-fn frame_refusal(bundle: &[u8]) -> u8
-    ensures { result ≡ refusal (frame_checks bundle.now) }
+fn check_frame(bundle: &[u8]) -> Result<(), Refusal>
+    ensures { number_of result ≡ refusal (frame_checks bundle.now) }
 {
     let size = bundle.len();
-    if size < 2 {
-        return 9;
+    if size < 2 || MOST_BYTES < size {
+        return Err(Refusal::Frame);
     }
-    if MOST_BYTES < size {
-        return 9;
+    let n = bundle[0];
+    let tables = usize::from(bundle[1]);
+    if tables == 0 || MOST_TABLES < tables {
+        return Err(Refusal::Frame);
     }
-    let n = byte_at(bundle, 0);
-    let tables = byte_at(bundle, 1);
-    let header = 2 + 4 * tables;
-    if tables == 0 {
-        return 9;
+    if size < 2 + 4 * tables {
+        return Err(Refusal::Frame);
     }
-    if MOST_TABLES < tables {
-        return 9;
+    if n == 0 || 6 < n {
+        return Err(Refusal::Variables);
     }
-    if size < header {
-        return 9;
-    }
-    if n == 0 {
-        return 1;
-    }
-    if 6 < n {
-        return 1;
-    }
-    0
+    Ok(())
 }
 
 // The checks of table j, whose body must begin at the place: 3, 10, 11.
-fn one_table_refusal(n: usize, bundle: &[u8], j: usize, place: usize) -> u8
-    requires { (refusal (frame_checks bundle.now) ≡ 0) × (n ≡ variables_of bundle.now) × (j < table_count bundle.now)
-        × (place ≡ place_of bundle.now j) × (place ≤ 65535) }
-    ensures { result ≡ refusal (table_checks_of bundle.now j) }
+#[tactic(auto, using(crate::proofs::CheckLaws::framing))]
+fn check_one_table(bundle: &[u8], j: usize, place: usize) -> Result<(), Refusal>
+    requires { (refusal (frame_checks bundle.now) ≡ 0) × (j < table_count bundle.now) × (place ≡ place_of bundle.now j) × (place ≤ 65535) }
+    ensures { number_of result ≡ refusal (table_checks_of bundle.now j) }
 {
-    let rows = read16(bundle, 2 + 4 * j);
-    let offset = read16(bundle, 4 + 4 * j);
-    let end = place + rows * n;
-    let size = bundle.len();
-    if terms::MOST_ROWS < rows {
-        return 3;
+    let entry = read_entry(bundle, j);
+    if terms::MOST_ROWS < entry.rows {
+        return Err(Refusal::Rows);
     }
-    if offset != place {
-        return 10;
+    if entry.place != place {
+        return Err(Refusal::Place);
     }
-    if size < end {
-        return 11;
+    if bundle.len() < place + entry.rows * entry.n {
+        return Err(Refusal::End);
     }
-    0
+    Ok(())
 }
 
 // The checks of each table in turn, then that no bytes remain (11).
-fn tables_refusal(n: usize, bundle: &[u8], tables: usize) -> u8
-    requires { (refusal (frame_checks bundle.now) ≡ 0) × (n ≡ variables_of bundle.now) × (tables ≡ table_count bundle.now) }
-    ensures { result ≡ refusal (tables_checks bundle.now 0 tables ++ remain_checks bundle.now) }
+#[tactic(auto, using(crate::proofs::CheckLaws::framing))]
+fn check_tables(bundle: &[u8]) -> Result<(), Refusal>
+    requires { refusal (frame_checks bundle.now) ≡ 0 }
+    ensures { number_of result ≡ refusal (tables_checks bundle.now 0 (table_count bundle.now) ++ remain_checks bundle.now) }
 {
+    let tables = usize::from(bundle[1]);
     let mut place = 2 + 4 * tables;
-    let mut j = 0;
-    while j < tables {
-        let number = one_table_refusal(n, bundle, j, place);
-        if number != 0 {
-            return number;
-        }
-        place += read16(bundle, 2 + 4 * j) * n;
-        j += 1;
+    for j in 0..tables {
+        check_one_table(bundle, j, place)?;
+        let entry = read_entry(bundle, j);
+        place += entry.rows * entry.n;
     }
-    if place < bundle.len() { 11 } else { 0 }
+    if place < bundle.len() {
+        return Err(Refusal::End);
+    }
+    Ok(())
 }
 
 // The checks of the bundle's layout: 9, 1, those of each table, bytes that remain.
-fn layout_refusal(bundle: &[u8]) -> u8
-    ensures { result ≡ refusal (layout_checks bundle.now) }
+fn check_layout(bundle: &[u8]) -> Result<(), Refusal>
+    ensures { number_of result ≡ refusal (layout_checks bundle.now) }
 {
-    let number = frame_refusal(bundle);
-    if number != 0 {
-        return number;
-    }
-    let n = byte_at(bundle, 0);
-    let tables = byte_at(bundle, 1);
-    tables_refusal(n, bundle, tables)
+    check_frame(bundle)?;
+    check_tables(bundle)
 }
 
 // Whether table j of a bundle whose layout and entries passed has equal rows.
-fn table_has_equal_rows(n: usize, bundle: &[u8], j: usize) -> bool
-    requires { (refusal (layout_checks bundle.now) ≡ 0) × (LargeEntry bundle.now → ⊥) × (n ≡ variables_of bundle.now) × (j < table_count bundle.now) }
+#[tactic(auto, using(crate::proofs::AcceptedLaws::laying))]
+fn table_has_equal_rows(bundle: &[u8], j: usize) -> bool
+    requires { (refusal (layout_checks bundle.now) ≡ 0) × (LargeEntry bundle.now → ⊥) × (j < table_count bundle.now) }
     ensures { result ≡ equal_rows_test (table_of bundle.now j) }
 {
-    let rows = read16(bundle, 2 + 4 * j);
-    let start = read16(bundle, 4 + 4 * j);
-    let end = start + rows * n;
-    distinct::has_equal_rows(n, &bundle[start..end])
+    let found = read_entry(bundle, j);
+    distinct::has_equal_rows(part(bundle, found))
 }
 
 // Whether some table of such a bundle has.
-fn some_equal_rows(n: usize, bundle: &[u8], tables: usize) -> bool
-    requires { (refusal (layout_checks bundle.now) ≡ 0) × (LargeEntry bundle.now → ⊥) × (n ≡ variables_of bundle.now)
-        × (tables ≡ table_count bundle.now) }
+#[tactic(auto, using(crate::proofs::AcceptedLaws::laying))]
+fn some_equal_rows(bundle: &[u8]) -> bool
+    requires { (refusal (layout_checks bundle.now) ≡ 0) × (LargeEntry bundle.now → ⊥) }
     ensures { result ≡ equal_rows_in_test bundle.now }
 {
-    let mut j = 0;
-    while j < tables {
-        if table_has_equal_rows(n, bundle, j) {
-            return true;
-        }
-        j += 1;
-    }
-    false
+    let tables = usize::from(bundle[1]);
+    (0..tables).any(|j| table_has_equal_rows(bundle, j))
 }
 
-// The number of the first check that refuses the bundle, whichever table is asked for; 0 where none does.
-pub fn bundle_refusal(bundle: &[u8]) -> u8
-    ensures { result ≡ refusal (bundle_checks bundle.now) }
+// The first check that refuses the bundle, whichever table is asked for.
+#[tactic(auto, using(crate::proofs::AcceptedLaws::laying))]
+pub fn check_bundle(bundle: &[u8]) -> Result<(), Refusal>
+    ensures { number_of result ≡ refusal (bundle_checks bundle.now) }
 {
-    let number = layout_refusal(bundle);
-    if number != 0 {
-        return number;
-    }
-    let n = byte_at(bundle, 0);
-    let tables = byte_at(bundle, 1);
-    let start = 2 + 4 * tables;
+    check_layout(bundle)?;
+    let start = 2 + 4 * usize::from(bundle[1]);
     if terms::has_large_entry(&bundle[start..]) {
-        return 4;
+        return Err(Refusal::Entry);
     }
-    if some_equal_rows(n, bundle, tables) {
-        return 12;
+    if some_equal_rows(bundle) {
+        return Err(Refusal::EqualRows);
     }
-    0
+    Ok(())
 }
 
-// The refusal, n, the row count and the place of table j, from the number by which the bundle is refused.
-pub fn locate_checked(bundle: &[u8], refused: u8, j: usize) -> Located
-    requires { refused ≡ refusal (bundle_checks bundle.now) }
+// Where table j of a bundle stands, which was checked.
+#[tactic(auto, using(crate::proofs::AcceptedLaws::accepting))]
+pub fn locate_checked(
+    bundle: &[u8],
+    checked: Result<(), Refusal>,
+    j: usize,
+) -> Result<Located, Refusal>
+    requires { number_of checked ≡ refusal (bundle_checks bundle.now) }
     ensures { LocatePromise bundle.now j result }
 {
-    if refused != 0 {
-        return Located {
-            refusal: refused,
-            n: 0,
-            rows: 0,
-            place: 0,
-        };
+    checked?;
+    if usize::from(bundle[1]) <= j {
+        return Err(Refusal::Argument);
     }
-    if byte_at(bundle, 1) <= j {
-        return Located {
-            refusal: 5,
-            n: 0,
-            rows: 0,
-            place: 0,
-        };
-    }
-    let n = byte_at(bundle, 0);
-    let count = read16(bundle, 2 + 4 * j);
-    let place = read16(bundle, 4 + 4 * j);
-    Located {
-        refusal: 0,
-        n,
-        rows: count,
-        place,
-    }
+    Ok(read_entry(bundle, j))
 }
 
-// The refusal, n, the row count and the place of table j.
-pub fn locate(bundle: &[u8], j: usize) -> Located
+// Where table j stands.
+pub fn locate(bundle: &[u8], j: usize) -> Result<Located, Refusal>
     ensures { LocatePromise bundle.now j result }
 {
-    locate_checked(bundle, bundle_refusal(bundle), j)
+    locate_checked(bundle, check_bundle(bundle), j)
 }
 
-// A table shown: the part of the lent bundle that it is, with its n and its row count beside it. The numbers beside a
-// refusal are 0, and the part is empty: it begins at the bundle's own start.
+// The part of a bundle that a found table is, as a table.
+pub fn part<'a>(bundle: &'a [u8], found: Located) -> FlatTable<'a>
+    requires { FoundWithin bundle.now found }
+    ensures { (result.n ≡ found.n) × PartOf bundle.entry found.place (found.rows * found.n) result.bytes }
+{
+    let end = found.place + found.rows * found.n;
+    FlatTable {
+        n: found.n,
+        bytes: &bundle[found.place..end],
+    }
+}
+
+// A table shown: the part of the lent bundle that it is, with its n and its row count beside it.
 #[derive(Clone, Copy)]
 pub struct OpenedTable<'a> {
     pub bytes: &'a [u8],
     pub n: usize,
     pub rows: usize,
-    pub refusal: u8,
-}
-
-// The part of a bundle that a found table is.
-pub fn part<'a>(bundle: &'a [u8], found: Located) -> &'a [u8]
-    requires { FoundWithin bundle.now found }
-    ensures { PartOf bundle.entry found.place (found.rows * found.n) result }
-{
-    let start = found.place;
-    let size = found.rows * found.n;
-    let end = start + size;
-    &bundle[start..end]
 }
 
 // Opens table j of a bundle.
-pub fn open_table<'a>(bundle: &'a [u8], j: usize) -> OpenedTable<'a>
+pub fn open_table<'a>(bundle: &'a [u8], j: usize) -> Result<OpenedTable<'a>, Refusal>
     ensures { OpenPromise bundle.entry j result }
 {
-    let found = locate(bundle, j);
-    let bytes = part(bundle, found);
-    OpenedTable {
-        bytes,
+    let found = locate(bundle, j)?;
+    Ok(OpenedTable {
+        bytes: part(bundle, found).bytes,
         n: found.n,
         rows: found.rows,
-        refusal: found.refusal,
-    }
+    })
 }

@@ -1,3 +1,4 @@
 -- The laws of tests and of refusals.
 pub mod TestLaws
 pub mod RefusalLaws
+pub mod OutcomeLaws

@@ -3,7 +3,7 @@
 --   example_j_accepted, -refused   every result that the promise allows
 --   example_j_written, -kept       what the lent bytes become
 --   example_e        rows 1 0 and 1 0: refused by 12, whatever the room
-use mathlib.Core.Path.{◌≡◌, refl, ap, ap₂, ◌∙◌}
+use mathlib.Core.Path.{◌≡◌, refl, ap, ◌∙◌}
 use mathlib.Core.List.{List, [], ◌∷◌}
 use Prim.Native.Nat.{ℕ}
 use lib.ListN.{length}
@@ -12,9 +12,11 @@ use Rattle.terms.specs.Rows.{rows, flat}
 use Rattle.terms.specs.ExampleTables.{bytes_d, bytes_e}
 use Rattle.distinct.specs.EqualRows.{same_test, equal_rows_test}
 use Rattle.completion.specs.Completed.{completed}
-use Rattle.completing.specs.Operation.{room_for, completed_of, complete_checks, complete_answer, completed_buffer, CompletePromise}
-use Rattle.completing.specs.declared.CompleteAnswer.{CompleteAnswer}
-use Rattle.completing.specs.declared.CompleteAnswer.TheVariants.{Rows, Refused}
+use Rattle.completing.specs.Operation.{room_for, completed_of, complete_checks, completed_buffer, CompletePromise}
+use Rattle.std.specs.Prelude.{Result, Ok, Err}
+use Rattle.checks.specs.declared.Refusal.{Refusal}
+use Rattle.checks.specs.declared.Refusal.TheVariants.{Room}
+use Rattle.checks.proofs.OutcomeLaws.{same_outcome}
 
 -- the number, the row count and the buffer with room for six bytes, and for five
 abbrev number_j : ℕ → ℕ
@@ -34,13 +36,13 @@ five : (number_j 5 ≡ 8) × (count_j 5 ≡ 0)
 unfolding answered completed rows equal_rows_test same_test room_for
 five = (refl, refl)
 
-pub example_j_accepted : (buffer : List ℕ) {answer : CompleteAnswer} {after : List ℕ} → length buffer ≡ 6 → CompletePromise 2 bytes_d buffer answer after →
-    answer ≡ Rows 3
-example_j_accepted buffer e p = p.settled ∙ ap₂ complete_answer (p.number ∙ ap number_j e ∙ six.0) (p.count ∙ ap count_j e ∙ six.1)
+pub example_j_accepted : (buffer : List ℕ) {answer : Result ℕ Refusal} {after : List ℕ} → length buffer ≡ 6 → CompletePromise 2 bytes_d buffer answer after →
+    answer ≡ Ok 3
+example_j_accepted buffer e p = same_outcome 0 _ (Ok 3) (p.number ∙ ap number_j e ∙ six.0) (p.count ∙ ap count_j e ∙ six.1)
 
-pub example_j_refused : (buffer : List ℕ) {answer : CompleteAnswer} {after : List ℕ} → length buffer ≡ 5 → CompletePromise 2 bytes_d buffer answer after →
-    answer ≡ Refused 8
-example_j_refused buffer e p = p.settled ∙ ap₂ complete_answer (p.number ∙ ap number_j e ∙ five.0) (p.count ∙ ap count_j e ∙ five.1)
+pub example_j_refused : (buffer : List ℕ) {answer : Result ℕ Refusal} {after : List ℕ} → length buffer ≡ 5 → CompletePromise 2 bytes_d buffer answer after →
+    answer ≡ Err Room
+example_j_refused buffer e p = same_outcome 0 _ (Err Room) (p.number ∙ ap number_j e ∙ five.0) (p.count ∙ ap count_j e ∙ five.1)
 
 -- what six lent bytes become, and what five stay
 pub example_j_written : (a b c d e f : ℕ) → buffer_j (a ∷ b ∷ c ∷ d ∷ e ∷ f ∷ []) ≡ 0 ∷ 2 ∷ 1 ∷ 2 ∷ 2 ∷ 1 ∷ []

@@ -5,38 +5,40 @@
 --   complete_refuses       where one does: its number, and the buffer as it was
 --   complete_rows_lem      an accepted result: the first rows of the buffer are rule 5's table of the given rows, and the bytes behind them stay
 --   complete_count, complete_written, complete_front, complete_behind   its row count, the buffer, the bytes of those rows, and the bytes behind them
---   complete_positive      the number of a refusal is above 0
 --   complete_length        no result changes the buffer's length
---   room_fits              rows within the room fit the buffer
+--   room_fits, room_holds   rows within the room fit the buffer, and so many rows that fit are within it
 --   room_enough, no_room   8 after the checks 1 to 4 and 12 passed, in terms of the completed table
-use mathlib.Core.Path.{◌≡◌, refl, sym, ap, ap₂, ◌∙◌, subst}
+use mathlib.Core.Path.{◌≡◌, sym, ap, ◌∙◌, subst}
 use mathlib.Core.List.{List, [], ◌∷◌}
-use Prim.Native.Nat.{ℕ, zero, suc, ◌*◌, ◌/◌, ◌≤◌, ◌<◌}
-use native.Mathlib.Nat.{le_trans, min-le_left, min-le_right, mul-le-mul_right, div-mul-le_self}
+use Prim.Native.Nat.{ℕ, min, ◌*◌, ◌/◌, ◌≤◌, ◌<◌}
+use Rattle.std.proofs.lemmas.Nat.{le-div}
+use native.Mathlib.Nat.{le_trans, min-le_left, min-le_right, le-min, mul-le-mul_right, le_of_mul-le-mul_right, div-mul-le_self}
 use native.Mathlib.Omega.{arith}
 use lib.ListN.{length, take, drop, length-append, length-drop}
 use lib.Seq.{take_at, drop_at}
 use Rattle.checks.proofs.TestLaws.{stable, tests_le}
 use Rattle.terms.specs.Monomials.{Table, OfSize}
 use Rattle.terms.specs.Rows.{rows, first_rows, flat}
+use Rattle.std.specs.Prelude.{Result, Ok, Err}
+use Rattle.checks.specs.declared.Refusal.{Refusal}
+use Rattle.checks.specs.Outcomes.{number}
+use Rattle.checks.proofs.OutcomeLaws.{number_positive, same_outcome}
 use Rattle.checks.specs.Refusals.{Check, Accepts, refusal}
 use Rattle.distinct.specs.EqualRows.{distinct_checks}
 use Rattle.checks.proofs.RefusalLaws.{accepted, accepts_head, accepts_right, refusal_none, refusal_holds, refusal_passes, refusal_append, answered_accepted}
-use Rattle.checks.proofs.RefusalLaws.{answered_refused, numbered_refused}
+use Rattle.checks.proofs.RefusalLaws.{answered_refused}
 use Rattle.terms.proofs.RowsLaws.{rows_size, length_flat, first_rows_flat}
 use Rattle.completion.specs.Completed.{CompletedTable}
-use Rattle.completing.specs.Operation.{room_for, completed_of, NoRoom, room_check, complete_checks, complete_answer, completed_buffer, CompletePromise}
-use Rattle.completing.specs.declared.CompleteAnswer.{CompleteAnswer}
-use Rattle.completing.specs.declared.CompleteAnswer.TheVariants.{Rows, Refused}
+use Rattle.completing.specs.Operation.{room_for, completed_of, NoRoom, room_check, complete_checks, completed_buffer, CompletePromise}
 use Rattle.completion.proofs.RuleFive.{completed_table}
 use Rattle.completion.proofs.SmallestTable.{completion_size}
 
 -- ---- one result
 
-pub complete_unique : {n : ℕ} {table buffer : List ℕ} {r s : CompleteAnswer} {x y : List ℕ} → CompletePromise n table buffer r x →
+pub complete_unique : {n : ℕ} {table buffer : List ℕ} {r s : Result ℕ Refusal} {x y : List ℕ} → CompletePromise n table buffer r x →
     CompletePromise n table buffer s y → (r ≡ s) × (x ≡ y)
 complete_unique p q = (
-  p.settled ∙ ap₂ complete_answer (p.number ∙ sym q.number) (p.count ∙ sym q.count) ∙ sym q.settled,
+  same_outcome 0 _ _ (p.number ∙ sym q.number) (p.count ∙ sym q.count),
   p.writes ∙ sym q.writes,
 )
 
@@ -46,21 +48,19 @@ module _ (n : ℕ) (table buffer : List ℕ) where
   abbrev checks : List Check
   checks = complete_checks n table (length buffer)
 
-  pub complete_accepts : refusal checks ≡ 0 → CompletePromise n table buffer (Rows (length (completed_of n table))) (completed_buffer n table buffer)
+  pub complete_accepts : refusal checks ≡ 0 → CompletePromise n table buffer (Ok (length (completed_of n table))) (completed_buffer n table buffer)
   complete_accepts e = record {
     number = sym e;
     count = sym (answered_accepted checks _ 0 e);
-    settled = refl;
     writes = sym (answered_accepted checks (completed_buffer n table buffer) buffer e);
   }
 
-  pub complete_refuses : (m : ℕ) → 0 < m → m ≡ refusal checks → CompletePromise n table buffer (Refused m) buffer
-  complete_refuses m p e =
-      let f : refusal checks ≡ 0 → ⊥ = λ z. omega (arith, e, z) in
+  pub complete_refuses : (e : Refusal) → number e ≡ refusal checks → CompletePromise n table buffer (Err e) buffer
+  complete_refuses e m =
+      let f : refusal checks ≡ 0 → ⊥ = λ z. omega (arith, m, z, number_positive e) in
       record {
-        number = e;
+        number = m;
         count = sym (answered_refused checks _ 0 f);
-        settled = sym (numbered_refused m Refused (Rows 0) (λ z. omega arith));
         writes = sym (answered_refused checks (completed_buffer n table buffer) buffer f);
       }
 
@@ -84,6 +84,13 @@ room_fits n size k h =
     let l : k * n ≤ size / n * n = mul-le-mul_right n (le_trans h (min-le_right 4096 (size / n))) in
     le_trans l (div-mul-le_self size n)
 
+-- and rows that fit the buffer, or the bytes of 4,096 rows where these are fewer, are within the room
+pub room_holds : (n size k : ℕ) → 0 < n → k * n ≤ min size (4096 * n) → k ≤ room_for n size
+unfolding room_for
+room_holds n size k p h = le-min
+    (le_of_mul-le-mul_right (le_trans h (min-le_right size (4096 * n))) p)
+    (le-div k size n p (le_trans h (min-le_left size (4096 * n))))
+
 -- there is never room for more than 4,096 rows
 pub room_limited : (n size : ℕ) → room_for n size ≤ 4096
 unfolding room_for
@@ -98,7 +105,7 @@ accepted_room n table size e = stable (tests_le (length (completed_of n table)) 
 pub completed_of_size : (n : ℕ) (table : List ℕ) → OfSize n (completed_of n table)
 completed_of_size n table = completion_size (completed_table n (rows n table) (rows_size n table))
 
-module _ {n : ℕ} {table buffer : List ℕ} {k : ℕ} {after : List ℕ} (p : CompletePromise n table buffer (Rows k) after) where
+module _ {n : ℕ} {table buffer : List ℕ} {k : ℕ} {after : List ℕ} (p : CompletePromise n table buffer (Ok k) after) where
   pub complete_count : k ≡ length (completed_of n table)
   complete_count = p.count ∙ answered_accepted (checks n table buffer) _ 0 (sym p.number)
 
@@ -131,19 +138,12 @@ module _ {n : ℕ} {table buffer : List ℕ} {k : ℕ} {after : List ℕ} (p : C
       let f : length H * n ≤ length buffer = room_fits n (length buffer) (length H) (accepted_room n table (length buffer) (sym p.number)) in
       ap length (complete_written) ∙ length-append (flat H) (drop (length H * n) buffer) ∙ omega (arith, length-drop (length H * n) buffer)
 
--- a refusal's number is above 0, and the buffer stays
-pub complete_positive : {n : ℕ} {table buffer : List ℕ} {m : ℕ} {after : List ℕ} → CompletePromise n table buffer (Refused m) after → 0 < m
-complete_positive {m = zero} p = absurd (never p.settled)
-  where
-    never : Refused 0 ≡ Rows 0 → ⊥
-    never e = let z : ◌≡◌ {A = ℕ} 0 1 = cc in omega arith
-complete_positive {m = suc m} p = omega arith
+-- beside a refusal the buffer stays
+complete_kept : {n : ℕ} {table buffer : List ℕ} {e : Refusal} {after : List ℕ} → CompletePromise n table buffer (Err e) after → after ≡ buffer
+complete_kept {n} {table} {buffer} {e} p =
+    p.writes ∙ answered_refused (checks n table buffer) (completed_buffer n table buffer) buffer (λ z. omega (arith, number_positive e, p.number, z))
 
-complete_kept : {n : ℕ} {table buffer : List ℕ} {m : ℕ} {after : List ℕ} → CompletePromise n table buffer (Refused m) after → after ≡ buffer
-complete_kept {n} {table} {buffer} p =
-    p.writes ∙ answered_refused (checks n table buffer) (completed_buffer n table buffer) buffer (λ z. omega (arith, complete_positive p, p.number, z))
-
-pub complete_length : {n : ℕ} {table buffer : List ℕ} {answer : CompleteAnswer} {after : List ℕ} → CompletePromise n table buffer answer after →
+pub complete_length : {n : ℕ} {table buffer : List ℕ} {answer : Result ℕ Refusal} {after : List ℕ} → CompletePromise n table buffer answer after →
     length after ≡ length buffer
-complete_length {answer = Rows k} p = complete_same p
-complete_length {answer = Refused m} p = ap length (complete_kept p)
+complete_length {answer = Ok k} p = complete_same p
+complete_length {answer = Err e} p = ap length (complete_kept p)

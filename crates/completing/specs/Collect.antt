@@ -1,21 +1,12 @@
--- What `collect` asks and does: the completed table of a table, from the front of an array on.
+-- What `collect` does: the completed table of a table, in an array for it.
 --
---   Collects         a table that no check refused, and an array for its completed rows
---   Collected        its completed table stands at the front of the array, or does not fit
-use Rattle.std.specs.Prelude.{◌≡◌, List, ℕ, ◌*◌, ◌≤◌, ◌<◌, length, take}
+--   Collected        the completed table stands at the front of the array, or does not fit
+use Rattle.std.specs.Prelude.{◌≡◌, List, ℕ, ◌*◌, Option, IfSome, length, take}
 use Rattle.terms.specs.Rows.{flat}
 use Rattle.blocks.specs.Bytes.{fit}
 use Rattle.completing.specs.Operation.{completed_of}
 
--- a table that no check refused, and an array for its completed rows
-pub record Collects (n : ℕ) (table : List ℕ) (rows : ℕ) (out : List ℕ) (room : ℕ) : Type 0 where
-  pub some : 0 < n
-  pub six : n ≤ 6
-  pub whole : length table ≡ rows * n
-  pub limited : rows ≤ 4096
-  pub most : room ≤ 4096
-  pub large : 4096 * 6 ≤ length out
-
-pub record Collected (n : ℕ) (table : List ℕ) (room r : ℕ) (out : List ℕ) : Type 0 where
-  pub end : r ≡ fit room (length (completed_of n table))
-  pub written : r ≤ room → take (r * n) out ≡ flat (completed_of n table)
+-- r is the number of its rows, none where out has no room for them
+pub record Collected (n : ℕ) (table out : List ℕ) (r : Option ℕ) (out' : List ℕ) : Type 0 where
+  pub end : r ≡ fit n (length out) (length (completed_of n table))
+  pub written : IfSome r (λ count. take (count * n) out' ≡ flat (completed_of n table))

@@ -1,23 +1,18 @@
 // The completed table of a table (rule 5), by slices of the first variable: the operation `complete`.
 #![tactic(auto)]
 
-ghost use Rattle.std.specs.Prelude.{◌≡◌, ◌*◌, ◌≤◌, ◌<◌, length};
+ghost use Rattle.std.specs.Prelude.{◌≡◌, ◌≤◌, length};
 ghost use Rattle.checks.specs.Refusals.{refusal};
+ghost use Rattle.terms.specs.Rows.{rows_of};
+ghost use Rattle.terms.specs.TableChecks.{TableAccepted};
 ghost use Rattle.distinct.specs.EqualRows.{distinct_checks};
-ghost use Rattle.completing.specs.Collect.{Collects, Collected};
-ghost use Rattle.completing.specs.Operation.{room_for, CompletePromise};
+ghost use Rattle.completing.specs.Collect.{Collected};
+ghost use Rattle.completing.specs.Operation.{CompletePromise};
 
-use distinct::distinct_refusal;
+use checks::Refusal;
+use distinct::check_distinct;
 use slicing::append_completed;
-use terms::{MOST_ROWS, Row};
-use writing::copy_from;
-
-// What `complete` answers: how many rows it wrote, or the number of the refusal.
-#[derive(Clone, Copy)]
-pub enum CompleteAnswer {
-    Rows(usize),
-    Refused(u8),
-}
+use terms::{FlatTable, MOST_ROWS, Row};
 
 // The bytes that a row takes in the working array with its tails, one variable after the other.
 const ROW_SPACE: usize = 6 + 5 + 4 + 3 + 2 + 1;
@@ -31,91 +26,55 @@ const FEW_ROWS: usize = 100;
 // The bytes of the most completed rows.
 pub const COMPLETED_SIZE: usize = MOST_ROWS * 6;
 
-// The completed table of a table at the front of out, worked out in lent arrays; how many rows, room + 1 where they do not fit.
-fn collect_in(
-    n: usize,
-    table: &[u8],
-    rows: usize,
-    work: &mut [u8],
-    next: &mut [u16],
-    out: &mut [u8],
-    room: usize,
-) -> usize
-    requires { Collects n table.now rows out.old room × (rows * 21 ≤ length work.old) × (rows * 5 ≤ length next.old) }
-    ensures { Collected n table.now room result out.new }
+// The completed table of a table of at most ROWS rows at the front of out; how many rows, None where they do not fit.
+fn collect_in<const ROWS: usize>(table: FlatTable, out: &mut [u8]) -> Option<usize>
+    requires { TableAccepted table.n table.bytes.now × (length (rows_of table) ≤ ROWS) × (ROWS ≤ 4096) }
+    ensures { Collected table.entry.n table.entry.bytes.now out.old result out.new }
 {
-    copy_from(work, 0, table, 0, rows * n);
-    let exponents = [0u8; 6];
-    let prefix = Row { exponents, n };
-    append_completed(work, next, rows, n - 1, prefix, out, room, 0)
-}
-
-// The same for a table of few rows.
-fn collect_few(n: usize, table: &[u8], rows: usize, out: &mut [u8], room: usize) -> usize
-    requires { Collects n table.now rows out.old room × (rows ≤ 100) }
-    ensures { Collected n table.now room result out.new }
-{
-    let mut work = [0u8; FEW_ROWS * ROW_SPACE];
-    let mut next = [0u16; FEW_ROWS * ROW_LINKS];
-    collect_in(n, table, rows, &mut work, &mut next, out, room)
-}
-
-// The same for any table that is not refused.
-fn collect_many(n: usize, table: &[u8], rows: usize, out: &mut [u8], room: usize) -> usize
-    requires { Collects n table.now rows out.old room }
-    ensures { Collected n table.now room result out.new }
-{
-    let mut work = [0u8; MOST_ROWS * ROW_SPACE];
-    let mut next = [0u16; MOST_ROWS * ROW_LINKS];
-    collect_in(n, table, rows, &mut work, &mut next, out, room)
+    let mut work = [[0u8; ROW_SPACE]; ROWS];
+    let mut next = [[0u16; ROW_LINKS]; ROWS];
+    let work = work.as_flattened_mut();
+    let next = next.as_flattened_mut();
+    work[..table.bytes.len()].copy_from_slice(table.bytes);
+    let prefix = Row {
+        exponents: [0; 6],
+        n: table.n,
+    };
+    let rows = table.row_count();
+    append_completed(work, next, rows, table.n - 1, prefix, out, 0)
 }
 
 // The same. A small table does not pay for the clearing of a large array.
-fn collect(n: usize, table: &[u8], rows: usize, out: &mut [u8], room: usize) -> usize
-    requires { Collects n table.now rows out.old room }
-    ensures { Collected n table.now room result out.new }
+fn collect(table: FlatTable, out: &mut [u8]) -> Option<usize>
+    requires { TableAccepted table.n table.bytes.now }
+    ensures { Collected table.entry.n table.entry.bytes.now out.old result out.new }
 {
-    if rows <= FEW_ROWS {
-        return collect_few(n, table, rows, out, room);
+    if table.row_count() <= FEW_ROWS {
+        return collect_in::<FEW_ROWS>(table, out);
     }
-    collect_many(n, table, rows, out, room)
-}
-
-// The room for completed rows in a buffer of that many bytes.
-fn room_for(n: usize, size: usize) -> usize
-    requires { 0 < n }
-    ensures { result ≡ room_for n size }
-{
-    let whole = size / n;
-    if whole < MOST_ROWS {
-        return whole;
-    }
-    MOST_ROWS
+    collect_in::<MOST_ROWS>(table, out)
 }
 
 // Writes the completed table of a table that the checks 1 to 4 and 12 let pass to the front of a lent buffer, or refuses it for room.
-pub fn complete_checked(n: usize, table: &[u8], buffer: &mut [u8]) -> CompleteAnswer
-    requires { refusal (distinct_checks n table.now) ≡ 0 }
-    ensures { CompletePromise n table.now buffer.old result buffer.new }
+pub fn complete_checked(table: FlatTable, buffer: &mut [u8]) -> Result<usize, Refusal>
+    requires { refusal (distinct_checks table.n table.bytes.now) ≡ 0 }
+    ensures { CompletePromise table.entry.n table.entry.bytes.now buffer.old result buffer.new }
 {
-    let room = room_for(n, buffer.len());
-    let mut out = [0u8; COMPLETED_SIZE];
-    let count = collect(n, table, table.len() / n, &mut out, room);
-    if room < count {
-        return CompleteAnswer::Refused(8);
-    }
-    let written: &[u8] = &out;
-    copy_from(buffer, 0, written, 0, count * n);
-    CompleteAnswer::Rows(count)
+    let mut completed = [0u8; COMPLETED_SIZE];
+    let room = buffer.len().min(MOST_ROWS * table.n);
+    let out = &mut completed[..room];
+    let Some(count) = collect(table, out) else {
+        return Err(Refusal::Room);
+    };
+    let size = count * table.n;
+    buffer[..size].copy_from_slice(&out[..size]);
+    Ok(count)
 }
 
 // Writes the completed table of a table to the front of a lent buffer; the bytes behind it stay, and on refusal all do.
-pub fn complete(n: usize, table: &[u8], buffer: &mut [u8]) -> CompleteAnswer
-    ensures { CompletePromise n table.now buffer.old result buffer.new }
+pub fn complete(table: FlatTable, buffer: &mut [u8]) -> Result<usize, Refusal>
+    ensures { CompletePromise table.entry.n table.entry.bytes.now buffer.old result buffer.new }
 {
-    let refused = distinct_refusal(n, table);
-    if refused != 0 {
-        return CompleteAnswer::Refused(refused);
-    }
-    complete_checked(n, table, buffer)
+    check_distinct(table)?;
+    complete_checked(table, buffer)
 }

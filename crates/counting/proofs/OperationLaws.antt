@@ -4,79 +4,65 @@
 --   count_refused, count_given ..  what an operation has to show, refused and accepted
 --   late_5, late_passed, countable_6, countable_7, countable_0   the checks 5, 6 and 7
 --   count_checked, steady_checked  what is known of a table that no check refuses
---   can_mark, can_sum              so count and polynomial may mark it, and sum over it with its marks
-use mathlib.Core.Path.{◌≡◌, refl, sym, ap₂, ◌∙◌}
-use mathlib.Core.List.{List, [], ◌∷◌, ◌++◌}
+--   can_mark                       so count and polynomial may mark it
+use mathlib.Core.Path.{◌≡◌, sym, ap, ◌∙◌}
+use mathlib.Core.List.{List, [], ◌∷◌}
 use Prim.Native.Nat.{ℕ, ◌≤◌}
 use native.Mathlib.Omega.{arith}
 use lib.IntN.{ℤ, pos}
+use Rattle.std.specs.Prelude.{Result, Ok, Err}
+use Rattle.checks.specs.declared.Refusal.{Refusal}
+use Rattle.checks.specs.Outcomes.{number}
+use Rattle.checks.specs.Refusals.{refusal}
 use Rattle.checks.proofs.TestLaws.{stable, tests_le}
+use Rattle.checks.proofs.RefusalLaws.{accepted, refusal_none, refusal_holds, refusal_passes, accepts_head, accepts_tail, rest_passes, answered_accepted}
+use Rattle.checks.proofs.RefusalLaws.{answered_refused}
+use Rattle.checks.proofs.OutcomeLaws.{number_positive, same_outcome}
 use Rattle.terms.specs.Order.{Ascending}
 use Rattle.terms.specs.Rows.{rows}
-use Rattle.checks.specs.Refusals.{refusal}
 use Rattle.terms.specs.TableChecks.{table_checks, TableAccepted}
+use Rattle.terms.specs.declared.Degree.{Degree}
 use Rattle.terms.proofs.OrderLaws.{tests_ascending}
-use Rattle.checks.proofs.RefusalLaws.{accepted, refusal_none, refusal_holds, refusal_passes, accepts_head, accepts_tail, rest_passes, answered_accepted}
-use Rattle.checks.proofs.RefusalLaws.{answered_refused, numbered_refused}
 use Rattle.terms.proofs.TableLaws.{table_listed}
-use Rattle.division.proofs.Facade.{NotAscending, order_check, Complete, tests_complete, table_marks}
+use Rattle.division.proofs.Facade.{NotAscending, order_check, Complete, tests_complete}
 use Rattle.marking.specs.Operation.{Markable}
 use Rattle.counts.specs.Counts.{count_at, polynomial_at, steady_of}
-use Rattle.summing.specs.Sums.{Checked, Marked}
+use Rattle.summing.specs.Sums.{Checked}
 use Rattle.counting.specs.Operations.{Above300, NotComplete, degree_check, complete_check, countable_checks, count_checks, steady_checks, CountPromise}
-use Rattle.counting.specs.Operations.{count_answer, PolynomialPromise, polynomial_answer, SteadyPromise, steady_answer}
-use Rattle.counting.specs.declared.CountAnswer.{CountAnswer}
-use Rattle.counting.specs.declared.CountAnswer.TheVariants as count
-use Rattle.counting.specs.declared.PolynomialAnswer.{PolynomialAnswer}
-use Rattle.counting.specs.declared.PolynomialAnswer.TheVariants as polynomial
-use Rattle.counting.specs.declared.SteadyAnswer.{SteadyAnswer}
-use Rattle.counting.specs.declared.SteadyAnswer.TheVariants as steady
-use Rattle.summing.proofs.PassLaws.{marked_front}
+use Rattle.counting.specs.Operations.{PolynomialPromise, SteadyPromise}
 
 -- ---- one answer
 
-pub count_unique : (n : ℕ) (table : List ℕ) (s : ℕ) (a b : CountAnswer) → CountPromise n table s a → CountPromise n table s b → a ≡ b
-count_unique n table s a b p q = p.settled ∙ ap₂ count_answer (p.number ∙ sym q.number) (p.value ∙ sym q.value) ∙ sym q.settled
+pub count_unique : (n : ℕ) (table : List ℕ) (s : ℕ) (a b : Result ℕ Refusal) → CountPromise n table s a → CountPromise n table s b → a ≡ b
+count_unique n table s a b p q = same_outcome 0 a b (p.number ∙ sym q.number) (p.value ∙ sym q.value)
 
-pub polynomial_unique : (n : ℕ) (table : List ℕ) (s : ℕ) (a b : PolynomialAnswer) → PolynomialPromise n table s a → PolynomialPromise n table s b → a ≡ b
-polynomial_unique n table s a b p q = p.settled ∙ ap₂ polynomial_answer (p.number ∙ sym q.number) (p.value ∙ sym q.value) ∙ sym q.settled
+pub polynomial_unique : (n : ℕ) (table : List ℕ) (s : ℕ) (a b : Result ℤ Refusal) → PolynomialPromise n table s a → PolynomialPromise n table s b → a ≡ b
+polynomial_unique n table s a b p q = same_outcome (pos 0) a b (p.number ∙ sym q.number) (p.value ∙ sym q.value)
 
-pub steady_unique : (n : ℕ) (table : List ℕ) (a b : SteadyAnswer) → SteadyPromise n table a → SteadyPromise n table b → a ≡ b
-steady_unique n table a b p q = p.settled ∙ ap₂ steady_answer (p.number ∙ sym q.number) (p.value ∙ sym q.value) ∙ sym q.settled
+pub steady_unique : (n : ℕ) (table : List ℕ) (a b : Result Degree Refusal) → SteadyPromise n table a → SteadyPromise n table b → a ≡ b
+steady_unique n table a b p q = same_outcome (record { 0 = 0 }) a b (p.number ∙ sym q.number) (ap (λ (d : ℕ). record { 0 = d }) (p.value ∙ sym q.value))
 
--- ---- what an operation has to show, where m is the number of its checks
+-- ---- what an operation has to show
 
-module _ (n : ℕ) (table : List ℕ) (s m : ℕ) (e : m ≡ refusal (count_checks n table s)) where
-  pub count_refused : (m ≡ 0 → ⊥) → CountPromise n table s (count.Refused m)
-  count_refused f = record {
-    number = e;
-    value = sym (answered_refused _ _ 0 (λ z. f (e ∙ z)));
-    settled = sym (numbered_refused m count.Refused (count.Value 0) f);
-  }
+module _ (n : ℕ) (table : List ℕ) (s : ℕ) where
+  pub count_refused : (e : Refusal) → number e ≡ refusal (count_checks n table s) → CountPromise n table s (Err e)
+  count_refused e m = record { number = m; value = sym (answered_refused _ _ 0 (λ z. omega (arith, m, z, number_positive e))) }
 
-  pub count_given : m ≡ 0 → (v : ℕ) → v ≡ count_at n (rows n table) s → CountPromise n table s (count.Value v)
-  count_given f v g = record { number = sym f ∙ e; value = g ∙ sym (answered_accepted _ _ 0 (sym e ∙ f)); settled = refl }
+  pub count_given : refusal (count_checks n table s) ≡ 0 → (v : ℕ) → v ≡ count_at n (rows n table) s → CountPromise n table s (Ok v)
+  count_given e v is = record { number = sym e; value = is ∙ sym (answered_accepted _ _ 0 e) }
 
-  pub polynomial_refused : (m ≡ 0 → ⊥) → PolynomialPromise n table s (polynomial.Refused m)
-  polynomial_refused f = record {
-    number = e;
-    value = sym (answered_refused _ _ (pos 0) (λ z. f (e ∙ z)));
-    settled = sym (numbered_refused m polynomial.Refused (polynomial.Value (pos 0)) f);
-  }
+  pub polynomial_refused : (e : Refusal) → number e ≡ refusal (count_checks n table s) → PolynomialPromise n table s (Err e)
+  polynomial_refused e m = record { number = m; value = sym (answered_refused _ _ (pos 0) (λ z. omega (arith, m, z, number_positive e))) }
 
-  pub polynomial_given : m ≡ 0 → (v : ℤ) → v ≡ polynomial_at n (rows n table) s → PolynomialPromise n table s (polynomial.Value v)
-  polynomial_given f v g = record { number = sym f ∙ e; value = g ∙ sym (answered_accepted _ _ (pos 0) (sym e ∙ f)); settled = refl }
+  pub polynomial_given : refusal (count_checks n table s) ≡ 0 → (v : ℤ) → v ≡ polynomial_at n (rows n table) s → PolynomialPromise n table s (Ok v)
+  polynomial_given e v is = record { number = sym e; value = is ∙ sym (answered_accepted _ _ (pos 0) e) }
 
-module _ (n : ℕ) (table : List ℕ) (m : ℕ) (e : m ≡ refusal (steady_checks n table)) where
-  pub steady_refused : (m ≡ 0 → ⊥) → SteadyPromise n table (steady.Refused m)
-  steady_refused f = record {
-    number = e;
-    value = sym (answered_refused _ _ 0 (λ z. f (e ∙ z)));
-    settled = sym (numbered_refused m steady.Refused (steady.At (record { 0 = 0 })) f);
-  }
+module _ (n : ℕ) (table : List ℕ) where
+  pub steady_refused : (e : Refusal) → number e ≡ refusal (steady_checks n table) → SteadyPromise n table (Err e)
+  steady_refused e m = record { number = m; value = sym (answered_refused _ _ 0 (λ z. omega (arith, m, z, number_positive e))) }
 
-  pub steady_given : m ≡ 0 → (v : ℕ) → v ≡ steady_of (rows n table) → SteadyPromise n table (steady.At (record { 0 = v }))
-  steady_given f v g = record { number = sym f ∙ e; value = g ∙ sym (answered_accepted _ _ 0 (sym e ∙ f)); settled = refl }
+  pub steady_given : refusal (steady_checks n table) ≡ 0 → (d : Degree) → d.0 ≡ steady_of (rows n table) → SteadyPromise n table (Ok d)
+  steady_given e d is = record { number = sym e; value = is ∙ sym (answered_accepted _ _ 0 e) }
 
 -- ---- the checks, one after another
 
@@ -121,18 +107,10 @@ module _ (n : ℕ) (table : List ℕ) (s : ℕ) where
       let h : s ≤ 300 = stable (tests_le s 300) (λ f. omega (arith, late_5 (omega (arith, f)))) in
       (checked n table (table_listed n table (degree_check s ∷ countable_checks n table) e) (sym (late_passed h) ∙ g), h)
 
--- ---- what count and polynomial do once the number m of their checks is 0
+-- ---- count and polynomial mark the table that they were asked of, into 4,096 bytes
 
-module _ (n : ℕ) (table : List ℕ) (s m : ℕ) (e : m ≡ refusal (count_checks n table s)) (z : m ≡ 0) where
-  passed : Checked n table × (s ≤ 300)
-  passed = count_checked n table s (sym e ∙ z)
-
-  -- they mark the table, into 4,096 bytes
-  pub can_mark : Markable n (rows n table) 4096 × Ascending (rows n table)
-  can_mark =
-      let t = passed.0.accepted in
-      (record { some = t.some; six = t.six; limited = t.limited; room = t.limited }, passed.0.ascending)
-
-  -- and sum over its rows, the marks at the front of a buffer
-  pub can_sum : (rest marks : List ℕ) → marks ≡ table_marks n (rows n table) ++ rest → Checked n table × Marked n table marks × (s ≤ 300)
-  can_sum rest marks f = (passed.0, marked_front n table rest marks f, passed.1)
+pub can_mark : (n : ℕ) (table : List ℕ) (s : ℕ) → refusal (count_checks n table s) ≡ 0 → Markable n (rows n table) 4096 × Ascending (rows n table)
+can_mark n table s e =
+    let c = (count_checked n table s e).0 in
+    let t = c.accepted in
+    (record { some = t.some; six = t.six; limited = t.limited; room = t.limited }, c.ascending)

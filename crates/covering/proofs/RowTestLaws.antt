@@ -1,22 +1,26 @@
 -- Laws of the check whether an ascending table is complete, for the code that asks it row by row.
 --
---   product_length                  a row's bytes with one of them raised: how many they are
 --   row_asks, row_gives             what `row_complete` asks of a row that was read, and what it gives
---   product_row, product_nothing    they are the row times that variable, and this has a Janet divisor exactly where the descent finds a row
+--   product_covered                 a row's bytes with one of them raised are the row times that variable, and this has a Janet divisor
+--                                   exactly where the descent finds a row
 --   marked_variable, unmarked_variable   the test of a variable, by its bit of the marks
 --   each_goes_on, each_fails        a test of each variable, one after the other
 --   last_complete, next_complete, complete_fails, complete_whole, complete_none   rule 4's test, row after row from the end
+--   turn_fails, turn_goes_on        one turn: the row that was read fails the test, and so the table; or it passes, and the walk goes on
 use mathlib.Core.Path.{◌≡◌, refl, sym, ap, ◌∙◌, subst}
-use mathlib.Core.Bool.{Bool, true, false, ◌&&◌}
+use mathlib.Core.Bool.{Bool, true, false}
 use mathlib.Core.List.Memᴰ
 use mathlib.Core.List.{List, [], ◌∷◌, Memᴰ}
 use mathlib.Core.Logic.{⊎_elim}
+use mathlib.Core.Option.{Option, none, some}
 use Prim.Native.Nat.{ℕ, zero, suc, ◌+◌, ◌-◌, ◌/◌, ◌%◌, ◌^◌, ◌≤◌, ◌<◌}
 use native.Mathlib.Nat.{not-suc-le-zero, le_of_suc-le-suc, eq-or-lt_of_le}
 use native.Mathlib.Numerals.{add-one}
 use native.Mathlib.Omega.{arith}
 use lib.ListN.{length, take, drop, set, get_or, length-set}
 use lib.Seq.{take-set-lt, get_or-take, length-take-le, drop-cons, drop-length}
+use Rattle.std.specs.Prelude.{is_ok}
+use Rattle.std.proofs.lemmas.Bool.{and_right}
 use Rattle.checks.specs.Tests.{pick, each, all}
 use Rattle.terms.specs.Monomials.{Monomial, Table, ◌!◌, row_at, AtMost, times}
 use Rattle.terms.specs.Order.{Ascending}
@@ -26,21 +30,18 @@ use Rattle.division.specs.Janet.{multiplicative_test, marks_of, covered_test, co
 use Rattle.division.specs.Scan.{found_test}
 use Rattle.division.specs.Checks.{Ready}
 use Rattle.division.specs.Descent.{descent}
-use Rattle.finding.specs.Stepping.{descended}
+use Rattle.finding.specs.Stepping.{found_or_ended, descended}
 use Rattle.covering.specs.RowTest.{Small, variable_test, row_test}
 use Rattle.division.proofs.MarkByteLaws.{marks_bit}
 use Rattle.division.proofs.SuccessorLaws.{last_marks}
-use Rattle.division.proofs.RangeLaws.{found_some, found_none}
 use Rattle.division.proofs.DescentLaws.{covered_found}
-use Rattle.division.specs.declared.Found.TheVariants as Found
 use Rattle.finding.specs.declared.Descended.{Descended}
 use Rattle.terms.specs.declared.Row.{Row}
-use Rattle.terms.specs.declared.RowNumber.{RowNumber}
 
 -- ---- the product of a row and a variable, as bytes
 
 module _ (bytes : List ℕ) (n : ℕ) (fits : n ≤ length bytes) where
-  pub product_length : (i v : ℕ) → length (take n (set bytes i v)) ≡ n
+  product_length : (i v : ℕ) → length (take n (set bytes i v)) ≡ n
   product_length i v = length-take-le n (set bytes i v) (rw length-set fits)
 
   product_times : (i : ℕ) → 0 < i → i ≤ n → take n (set bytes (i - 1) (get_or bytes (i - 1) 0 + 1)) ≡ times (take n bytes) i 1
@@ -55,9 +56,6 @@ module _ (n : ℕ) (table : List ℕ) (k : ℕ) (l : k < length (rows n table)) 
   abbrev G : Table
   G = rows n table
 
-  width : row.n ≡ n
-  width = row_variables n (row_at G k) is
-
   same : monomial_of row ≡ row_at G k
   same = row_read n (row_at G k) is (row_size n table k l)
 
@@ -66,46 +64,38 @@ module _ (n : ℕ) (table : List ℕ) (k : ℕ) (l : k < length (rows n table)) 
   small h i = omega (arith, ap (λ (x : Row). x.exponents ! i) is ∙ padded_at (row_at G k) i, h k l i)
 
   pub row_asks : (m : ℕ) → Ready n G → Small G → m ≡ marks_of n G (row_at G k) →
-      Ready row.n (rows row.n table) × AtMost 50 row.exponents × (m ≡ marks_of row.n (rows row.n table) (monomial_of row))
-  row_asks m r h e = (rw width r, small h, rw (same, width) e)
+      Ready n G × (row.n ≡ n) × AtMost 50 row.exponents × (m ≡ marks_of n G (monomial_of row))
+  row_asks m r h e = (r, row_variables n (row_at G k) is, small h, rw same e)
 
-  pub row_gives : {b : Bool} → b ≡ row_test row.n (rows row.n table) (monomial_of row) → b ≡ row_test n G (row_at G k)
-  row_gives e = rw (same, width) at e
+  pub row_gives : {b : Bool} → b ≡ row_test n G (monomial_of row) → b ≡ row_test n G (row_at G k)
+  row_gives e = rw same at e
 
 -- ---- a Janet divisor, by the descent
 
-module _ (n : ℕ) (table : List ℕ) (q : Monomial) (e : length q ≡ n) (d : Descended) (is : d ≡ descended (descent n (rows n table) q)) where
-  covered_row : (r : RowNumber) → d.found ≡ Found.Row r → true ≡ covered_test (rows n table) q
-  covered_row r f = sym (covered_found (rows_size n table) q e ∙ ap found_test (found_some (descent n (rows n table) q).found r (cc)))
+ok_found : (o : Option ℕ) (e : ℕ) → is_ok (found_or_ended o e) ≡ found_test o
+ok_found none e = refl
+ok_found (some r) e = refl
 
-  covered_nothing : d.found ≡ Found.Nothing → false ≡ covered_test (rows n table) q
-  covered_nothing f = sym (covered_found (rows_size n table) q e ∙ ap found_test (found_none (descent n (rows n table) q).found (cc)))
-
-module _ (n : ℕ) (table bytes : List ℕ) (fits : n ≤ length bytes) (i : ℕ) (p : 0 < i) (l : i ≤ n) where
+module _ (n : ℕ) (table : List ℕ) (row : Row) (fits : n ≤ length row.exponents) (width : row.n ≡ n) (i : ℕ) (p : 0 < i) (l : i ≤ n) where
   abbrev raised : Monomial
-  raised = take n (set bytes (i - 1) (get_or bytes (i - 1) 0 + 1))
+  raised = take n (set row.exponents (i - 1) (get_or row.exponents (i - 1) 0 + 1))
 
-  module _ (d : Descended) (is : d ≡ descended (descent n (rows n table) raised)) where
-    as_product : covered_test (rows n table) raised ≡ covered_test (rows n table) (times (take n bytes) i 1)
-    as_product = ap (covered_test (rows n table)) (product_times bytes n fits i p l)
+  pub product_covered : (d : Descended) → d ≡ descended (descent n (rows n table) raised)
+      → is_ok d.found ≡ covered_test (rows n table) (times (monomial_of row) i 1)
+  product_covered d is =
+      let found = descent n (rows n table) raised in
+      ap (λ (x : Descended). is_ok x.found) is ∙ ok_found found.found found.ended
+      ∙ sym (covered_found (rows_size n table) raised (product_length row.exponents n fits (i - 1) (get_or row.exponents (i - 1) 0 + 1)))
+      ∙ ap (covered_test (rows n table)) (rw width (product_times row.exponents n fits i p l))
 
-    size : length raised ≡ n
-    size = product_length bytes n fits (i - 1) (get_or bytes (i - 1) 0 + 1)
+-- ---- one variable of one row, whose marks are m
 
-    pub product_row : (r : RowNumber) → d.found ≡ Found.Row r → true ≡ covered_test (rows n table) (times (take n bytes) i 1)
-    product_row r f = covered_row n table raised size d is r f ∙ as_product
-
-    pub product_nothing : d.found ≡ Found.Nothing → false ≡ covered_test (rows n table) (times (take n bytes) i 1)
-    product_nothing f = covered_nothing n table raised size d is f ∙ as_product
-
--- ---- one variable of one row
-
-module _ (n : ℕ) (G : Table) (u : Monomial) (i : ℕ) (l : i < n) where
-  bit_is : marks_of n G u / 2 ^ i % 2 ≡ pick (multiplicative_test G u (suc i)) 1 0
+module _ (n : ℕ) (G : Table) (u : Monomial) (m : ℕ) (is : m ≡ marks_of n G u) (i : ℕ) (l : i < n) where
+  bit_is : m / 2 ^ i % 2 ≡ pick (multiplicative_test G u (suc i)) 1 0
   unfolding marks_of
-  bit_is = marks_bit (multiplicative_test G u) n i l
+  bit_is = rw is (marks_bit (multiplicative_test G u) n i l)
 
-  pub marked_variable : (marks_of n G u / 2 ^ i % 2 ≡ 0 → ⊥) → variable_test G u (suc i) ≡ true
+  pub marked_variable : (m / 2 ^ i % 2 ≡ 0 → ⊥) → variable_test G u (suc i) ≡ true
   unfolding variable_test
   marked_variable f = go (multiplicative_test G u (suc i)) refl
     where
@@ -113,19 +103,15 @@ module _ (n : ℕ) (G : Table) (u : Monomial) (i : ℕ) (l : i < n) where
       go true e = rw e
       go false e = absurd (f (bit_is ∙ ap (λ (c : Bool). pick c 1 0) e))
 
-  pub unmarked_variable : marks_of n G u / 2 ^ i % 2 ≡ 0 → variable_test G u (suc i) ≡ covered_test G (times u (suc i) 1)
+  pub unmarked_variable : m / 2 ^ i % 2 ≡ 0 → {b : Bool} → b ≡ covered_test G (times u (i + 1) 1) → variable_test G u (suc i) ≡ b
   unfolding variable_test
-  unmarked_variable f = go (multiplicative_test G u (suc i)) refl
+  unmarked_variable f h = go (multiplicative_test G u (suc i)) refl ∙ sym (rw add-one at h)
     where
       go : (b : Bool) → multiplicative_test G u (suc i) ≡ b → variable_test G u (suc i) ≡ covered_test G (times u (suc i) 1)
       go true e = absurd (omega (arith, f, bit_is ∙ ap (λ (c : Bool). pick {A = ℕ} c 1 0) e))
       go false e = rw e
 
 -- ---- one variable after the other
-
-and_false : (b c : Bool) → c ≡ false → (b && c) ≡ false
-and_false true c e = e
-and_false false c e = refl
 
 pub each_goes_on : (i : ℕ) (f : ℕ → Bool) → each i f ≡ true → f (suc i) ≡ true → each (i + 1) f ≡ true
 each_goes_on i f e h = rw (add-one i, h) e
@@ -134,7 +120,7 @@ pub each_fails : (n i : ℕ) (f : ℕ → Bool) → i < n → f (suc i) ≡ fals
 each_fails zero i f l h = absurd (not-suc-le-zero l)
 each_fails (suc n) i f l h = ⊎_elim
     (λ e. let g : f (suc n) ≡ false = subst (λ (k : ℕ). f (suc k) ≡ false) e h in rw g)
-    (λ k. and_false (f (suc n)) (each n f) (each_fails n i f k h))
+    (λ k. and_right (f (suc n)) (each n f) (each_fails n i f k h))
     (eq-or-lt_of_le (le_of_suc-le-suc l))
 
 each_all : (n : ℕ) (f : ℕ → Bool) → ((i : ℕ) → f i ≡ true) → each n f ≡ true
@@ -147,7 +133,7 @@ all_fails : (f : Monomial → Bool) (l : Table) (u : Monomial) → Memᴰ u l �
 all_fails f [] u m h = absurd (Memᴰ.not-nil m)
 all_fails f (v ∷ l) u m h = ⊎_elim
     (λ e. let g : f v ≡ false = ap f (sym e) ∙ h in rw g)
-    (λ k. and_false (f v) (all f l) (all_fails f l u k h))
+    (λ k. and_right (f v) (all f l) (all_fails f l u k h))
     (Memᴰ.cases_cons m)
 
 module _ (n : ℕ) (G : Table) where
@@ -162,7 +148,7 @@ module _ (n : ℕ) (G : Table) where
       go [] h = refl
       go (u ∷ H) h = absurd (omega arith)
 
-  pub next_complete : (k : ℕ) → k < length G → row_test n G (row_at G k) ≡ true → all (row_test n G) (drop (suc k) G) ≡ true
+  next_complete : (k : ℕ) → k < length G → row_test n G (row_at G k) ≡ true → all (row_test n G) (drop (suc k) G) ≡ true
       → all (row_test n G) (drop k G) ≡ true
   next_complete k l h e = rw (drop-cons G k [] l, h) e
 
@@ -177,5 +163,16 @@ module _ (n : ℕ) (G : Table) where
   pub complete_whole : all (row_test n G) (drop 0 G) ≡ true → true ≡ complete_test n G
   complete_whole e = sym (whole_test ∙ e)
 
-  pub complete_fails : (k : ℕ) → k < length G → row_test n G (row_at G k) ≡ false → false ≡ complete_test n G
+  complete_fails : (k : ℕ) → k < length G → row_test n G (row_at G k) ≡ false → false ≡ complete_test n G
   complete_fails k l h = sym (whole_test ∙ all_fails (row_test n G) G (row_at G k) (member_at G [] k l) h)
+
+-- ---- one turn of the walk: row k is read and asked
+
+module _ (n : ℕ) (table : List ℕ) (k : ℕ) (l : k < length (rows n table)) (row : Row) (is : row ≡ as_row n (row_at (rows n table) k))
+    (b : Bool) (asked : b ≡ row_test n (rows n table) (monomial_of row)) where
+  pub turn_fails : b ≡ false → false ≡ complete_test n (rows n table)
+  turn_fails f = complete_fails n (rows n table) k l (sym (row_gives n table k l row is asked) ∙ f)
+
+  pub turn_goes_on : b ≡ true → all (row_test n (rows n table)) (drop (suc k) (rows n table)) ≡ true
+      → all (row_test n (rows n table)) (drop k (rows n table)) ≡ true
+  turn_goes_on f rest = next_complete n (rows n table) k l (sym (row_gives n table k l row is asked) ∙ f) rest

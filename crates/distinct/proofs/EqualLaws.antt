@@ -1,49 +1,34 @@
 -- Laws of equal rows.
 --
---   SameBehind i u v   u and v are equal in each variable behind i
---   same_beyond, same_before_next, same_rows   two rows are compared from the last variable to the first
+--   answer_same            what an answer about two rows says
 --   ascends_none           strictly ascending rows are not equal
 --   neighbours_equal, neighbours_none   two neighbours of a listing are equal; where no two are, no two rows are
---   found_equal, neighbours_next        what the answer about two neighbours says
+--   neighbour_test k   whether the rows at places k − 1 and k of the list are equal
+--   neighbours_tested      some two neighbours are equal just where two rows are
 --   distinct_precedes      of distinct rows, each that is listed precedes every later one
 use mathlib.Core.Path.{◌≡◌, refl, sym, ap, ◌∙◌, subst}
 use mathlib.Core.Bool.{Bool, true, false}
 use mathlib.Core.List.{List}
-use mathlib.Core.Logic.{inl, inr, by_cases, ⊎_elim}
-use Prim.Native.Nat.{ℕ, zero, suc, ◌+◌, ◌-◌, ◌<◌}
-use native.Mathlib.Decide.{dec_lt}
+use mathlib.Core.Logic.{◌⊎◌, inl, inr, by_cases, ⊎_elim}
+use Prim.Native.Nat.{ℕ, zero, suc, ◌+◌, ◌-◌, ◌≤◌, ◌<◌}
+use native.Mathlib.Decide.{dec_lt, ℕ_discrete}
 use native.Mathlib.Omega.{arith}
 use lib.ListN.{length}
 use Rattle.checks.specs.Tests.{Tests}
-use Rattle.checks.proofs.TestLaws.{tests_false, true_tests, false_tests}
-use Rattle.terms.specs.Monomials.{Monomial, Table, ◌!◌, row_at, EqualRows, Distinct}
+use Rattle.checks.proofs.TestLaws.{stable, tests_as, tests_false, tests_or, tests_same, tests_true, true_tests}
+use Rattle.terms.specs.Monomials.{Monomial, Table, row_at, EqualRows, Distinct}
 use Rattle.terms.specs.Order.{Precedes, ascending_test}
-use Rattle.terms.proofs.MonomialLaws.{beyond, same_all}
 use Rattle.terms.proofs.OrderLaws.{precedes_irreflexive, precedes_trans, tests_ascending, ascending_distinct}
 use Rattle.ordering.specs.Listing.{Comes, listed, Listing}
+use Rattle.std.specs.List.{list_any, range_with_len}
 use Rattle.ordering.specs.Passes.{at}
 use Rattle.distinct.specs.EqualRows.{same_test, equal_rows_test, tests_same_monomial, tests_equal_rows}
 
--- ---- two rows, from the last exponent to the first
+-- ---- two rows
 
--- u and v are equal in each variable behind i
-abbrev pub SameBehind : ℕ → Monomial → Monomial → Type 0
-SameBehind i u v = (j : ℕ) → i < j → u ! j ≡ v ! j
-
-module _ (u v : Monomial) where
-  pub same_beyond : (n : ℕ) → length u ≡ n → length v ≡ n → SameBehind n u v
-  same_beyond n e f j l = beyond u j (omega arith) ∙ sym (beyond v j (omega arith))
-
-  pub same_before_next : (i : ℕ) → 0 < i → u ! suc (i - 1) ≡ v ! suc (i - 1) → SameBehind i u v → SameBehind (i - 1) u v
-  same_before_next i p e b j l = by_cases (dec_lt i j) (b j)
-      (λ g. let x : suc (i - 1) ≡ j = omega arith in subst (λ (k : ℕ). u ! k ≡ v ! k) x e)
-
-  pub same_rows : length u ≡ length v → SameBehind 0 u v → u ≡ v
-  same_rows l b = same_all u v l each
-    where
-      each : (i : ℕ) → u ! i ≡ v ! i
-      each zero = refl
-      each (suc i) = b (suc i) (omega arith)
+pub answer_same : (u v : Monomial) (answer : Bool) → (answer ≡ true → u ≡ v) → (answer ≡ false → u ≡ v → ⊥) → answer ≡ same_test u v
+answer_same u v true same differ = tests_true (tests_same_monomial u v) (same refl)
+answer_same u v false same differ = tests_false (tests_same_monomial u v) (differ refl)
 
 -- ---- ascending tables
 
@@ -58,6 +43,10 @@ ascends_none G answer e f = tests_false (tests_equal_rows G) (ascending_distinct
 module _ (G : Table) (order : List ℕ) (t : Listing G order) where
   abbrev row : ℕ → Monomial
   row = listed G order
+
+  -- whether the rows at places k − 1 and k of the list are equal
+  abbrev pub neighbour_test : ℕ → Bool
+  neighbour_test k = same_test (row (k - 1)) (row k)
 
   pub neighbours_equal : (k : ℕ) → suc k < length G → row k ≡ row (suc k) → EqualRows G
   neighbours_equal k l e = by_order (t.ordered k (suc k) (omega arith) l)
@@ -96,21 +85,35 @@ module _ (G : Table) (order : List ℕ) (t : Listing G order) where
       (λ p. absurd (d (at order l, t.numbers l g, (at order k, p.1, p.0))))
       (t.ordered k l h g)
 
--- what the answer about rows k − 1 and k of the list says
-module _ (G : Table) (order : List ℕ) (k : ℕ) (p : 0 < k) (answer : Bool) (e : answer ≡ same_test (row_at G (at order (k - 1))) (row_at G (at order k))) where
-  agrees : Tests answer (row_at G (at order (k - 1)) ≡ row_at G (at order k))
-  agrees = rw e (tests_same_monomial (row_at G (at order (k - 1))) (row_at G (at order k)))
+  -- two neighbours from place a on
+  abbrev Neighbours : ℕ → ℕ → Type 0
+  Neighbours a m = (k : ℕ) × (a ≤ k) × (k < a + m) × (row (k - 1) ≡ row k)
 
-  pub found_equal : Listing G order → k < length G → answer ≡ true → EqualRows G
-  found_equal t l f =
-      let x : k ≡ suc (k - 1) = omega arith in
-      neighbours_equal G order t (k - 1) (omega arith) (true_tests agrees f ∙ ap (λ (j : ℕ). row_at G (at order j)) x)
+  tests_neighbours : (a m : ℕ) → Tests (list_any neighbour_test (range_with_len a m)) (Neighbours a m)
+  tests_neighbours a zero = record { sound = λ x. absurd x; complete = λ p. absurd (omega (arith, p.1, p.2)) }
+  tests_neighbours a (suc m) = tests_as (tests_or (tests_same_monomial (row (a - 1)) (row a)) (tests_neighbours (a + 1) m)) found split
+    where
+      found : (row (a - 1) ≡ row a) ⊎ Neighbours (a + 1) m → Neighbours a (suc m)
+      found (inl e) = (a, omega arith, omega arith, e)
+      found (inr p) = (p.0, omega (arith, p.1), omega (arith, p.2), p.3)
 
-  pub neighbours_next : answer ≡ false → ((j : ℕ) → suc j < k → row_at G (at order j) ≡ row_at G (at order (suc j)) → ⊥)
-      → (j : ℕ) → suc j < k + 1 → row_at G (at order j) ≡ row_at G (at order (suc j)) → ⊥
-  neighbours_next f b j l q = by_cases (dec_lt (suc j) k)
-      (λ h. b j h q)
-      (λ g.
-      let x : k - 1 ≡ j = omega arith in
-      let y : suc j ≡ k = omega arith in
-      false_tests agrees f (ap (λ (i : ℕ). row_at G (at order i)) x ∙ q ∙ ap (λ (i : ℕ). row_at G (at order i)) y))
+      split : Neighbours a (suc m) → (row (a - 1) ≡ row a) ⊎ Neighbours (a + 1) m
+      split (k, l, h, e) = by_cases (ℕ_discrete a k)
+          (λ z. inl (subst (λ (j : ℕ). row (j - 1) ≡ row j) (sym z) e))
+          (λ z. inr (k, omega (arith, z), omega arith, e))
+
+  pub neighbours_tested : list_any neighbour_test (range_with_len 1 (length G - 1)) ≡ equal_rows_test G
+  neighbours_tested = tests_same _ _ (tests_as tests found split) (tests_equal_rows G)
+    where
+      tests : Tests (list_any neighbour_test (range_with_len 1 (length G - 1))) (Neighbours 1 (length G - 1))
+      tests = tests_neighbours 1 (length G - 1)
+
+      found : Neighbours 1 (length G - 1) → EqualRows G
+      found (k, l, h, e) =
+          let z : k ≡ suc (k - 1) = omega arith in
+          neighbours_equal (k - 1) (omega arith) (e ∙ ap row z)
+
+      split : EqualRows G → Neighbours 1 (length G - 1)
+      split e = stable tests (λ none. neighbours_none (λ k l q.
+          let z : k ≡ suc k - 1 = omega arith in
+          none (suc k, omega arith, omega arith, subst (λ (j : ℕ). row j ≡ row (suc k)) z q)) e)

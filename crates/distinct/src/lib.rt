@@ -3,107 +3,72 @@
 #![tactic(auto)]
 
 ghost use Rattle.std.specs.Prelude.{◌≡◌, ◌≤◌, ◌<◌, length};
+ghost use Rattle.checks.specs.Outcomes.{number_of};
 ghost use Rattle.checks.specs.Refusals.{refusal};
 ghost use Rattle.terms.specs.Monomials.{row_at};
-ghost use Rattle.terms.specs.Rows.{rows};
+ghost use Rattle.terms.specs.Rows.{rows_of};
 ghost use Rattle.terms.specs.TableChecks.{TableAccepted};
 ghost use Rattle.ordering.specs.Listing.{Listing};
 ghost use Rattle.distinct.specs.EqualRows.{same_test, equal_rows_test, distinct_checks};
 
+use checks::Refusal;
 use ordering::{list_rows, row_listed};
-use terms::{MOST_ROWS, RowNumber, ascends, table_refusal};
+use terms::{FlatTable, MOST_ROWS, RowNumber};
 
 // Whether rows r and s are equal. Neighbours of a list differ late, so the last exponent is the first to look at.
-fn same_row(n: usize, table: &[u8], r: RowNumber, s: RowNumber) -> bool
-    requires { (r.0 < length (rows n table.now)) × (s.0 < length (rows n table.now)) }
-    ensures { result ≡ same_test (row_at (rows n table.now) r.0) (row_at (rows n table.now) s.0) }
+fn same_row(table: FlatTable, r: RowNumber, s: RowNumber) -> bool
+    requires { (r.0 < length (rows_of table)) × (s.0 < length (rows_of table)) }
+    ensures { result ≡ same_test (row_at (rows_of table.entry) r.0) (row_at (rows_of table.entry) s.0) }
 {
-    let first = r.0;
-    let second = s.0;
-    let here = first * n;
-    let there = second * n;
-    let mut i = n;
-    while 0 < i {
-        i -= 1;
-        if table[here + i] != table[there + i] {
-            return false;
-        }
-    }
-    true
+    let first = table.row_bytes(r);
+    let second = table.row_bytes(s);
+    first.iter().rev().eq(second.iter().rev())
 }
 
 // Whether two neighbours of the list of all rows are equal rows.
-pub fn has_equal_neighbours(n: usize, table: &[u8], order: &[u16]) -> bool
-    requires { (0 < n) × (length (rows n table.now) ≤ length order.now) × Listing (rows n table.now) order.now }
-    ensures { result ≡ equal_rows_test (rows n table.now) }
+pub fn has_equal_neighbours(table: FlatTable, order: &[u16]) -> bool
+    requires { (0 < table.n) × (length (rows_of table) ≤ length order.now) × Listing (rows_of table) order.now }
+    ensures { result ≡ equal_rows_test (rows_of table.entry) }
 {
-    let count = table.len() / n;
-    let mut k = 1;
-    while k < count {
-        if same_row(n, table, row_listed(order, k - 1), row_listed(order, k)) {
-            return true;
-        }
-        k += 1;
-    }
-    false
+    (1..table.row_count()).any(|k| same_row(table, row_listed(order, k - 1), row_listed(order, k)))
 }
 
 // Up to so many rows are listed in small arrays.
 const FEW_ROWS: usize = 100;
 
-// Whether two rows of a table are equal, by a list of all rows in lent arrays.
-fn has_equal_listed(n: usize, table: &[u8], order: &mut [u16], other: &mut [u16]) -> bool
-    requires { TableAccepted n table.now × (length (rows n table.now) ≤ length order.old) × (length (rows n table.now) ≤ length other.old) }
-    ensures { result ≡ equal_rows_test (rows n table.now) }
+// Whether two rows of a table of at most so many rows are equal, by a list of all rows.
+fn has_equal_within<const ROOM: usize>(table: FlatTable) -> bool
+    requires { TableAccepted table.n table.bytes.now × (length (rows_of table) ≤ ROOM) × (ROOM ≤ 4096) }
+    ensures { result ≡ equal_rows_test (rows_of table.entry) }
 {
-    list_rows(n, table, order, other);
-    has_equal_neighbours(n, table, order)
-}
-
-// The same for a table of few rows.
-fn has_equal_few(n: usize, table: &[u8]) -> bool
-    requires { TableAccepted n table.now × (length (rows n table.now) ≤ 100) }
-    ensures { result ≡ equal_rows_test (rows n table.now) }
-{
-    let mut order = [0u16; FEW_ROWS];
-    let mut other = [0u16; FEW_ROWS];
-    has_equal_listed(n, table, &mut order, &mut other)
-}
-
-// The same for any table that the checks 1 to 4 do not refuse.
-fn has_equal_many(n: usize, table: &[u8]) -> bool
-    requires { TableAccepted n table.now }
-    ensures { result ≡ equal_rows_test (rows n table.now) }
-{
-    let mut order = [0u16; MOST_ROWS];
-    let mut other = [0u16; MOST_ROWS];
-    has_equal_listed(n, table, &mut order, &mut other)
+    let mut order = [0; ROOM];
+    let mut other = [0; ROOM];
+    list_rows(table, &mut order, &mut other);
+    has_equal_neighbours(table, &order)
 }
 
 // Whether two rows of a table are equal. A small table does not pay for the clearing of large arrays.
-pub fn has_equal_rows(n: usize, table: &[u8]) -> bool
-    requires { TableAccepted n table.now }
-    ensures { result ≡ equal_rows_test (rows n table.now) }
+#[tactic(auto, using(crate::proofs::EqualLaws::ascends_none))]
+pub fn has_equal_rows(table: FlatTable) -> bool
+    requires { TableAccepted table.n table.bytes.now }
+    ensures { result ≡ equal_rows_test (rows_of table.entry) }
 {
-    if ascends(n, table) {
+    if table.ascends() {
         return false;
     }
-    if table.len() / n <= FEW_ROWS {
-        return has_equal_few(n, table);
+    if table.row_count() <= FEW_ROWS {
+        return has_equal_within::<FEW_ROWS>(table);
     }
-    has_equal_many(n, table)
+    has_equal_within::<MOST_ROWS>(table)
 }
 
-// The number of the first of the checks 1 to 4 and 12 that refuses the table, 0 where none does.
-pub fn distinct_refusal(n: usize, table: &[u8]) -> u8
-    ensures { result ≡ refusal (distinct_checks n table.now) }
+// The checks 1 to 4 and 12.
+pub fn check_distinct(table: FlatTable) -> Result<(), Refusal>
+    ensures { number_of result ≡ refusal (distinct_checks table.entry.n table.entry.bytes.now) }
 {
-    let refused = table_refusal(n, table);
-    if refused != 0 {
-        return refused;
+    table.check()?;
+    if has_equal_rows(table) {
+        return Err(Refusal::EqualRows);
     }
-    if has_equal_rows(n, table) {
-        return 12;
-    }
-    0
+    Ok(())
 }

@@ -9,7 +9,7 @@
 --   range_above, range_shared   the rows above the least exponent, and those that have it, are such ranges again
 --   range_none, range_next, range_gap, range_down   the four laws of the descent, of ranges
 --   larger_unique    there is one first later row with a larger exponent
---   found_some, found_none   what the code's answer says of the row number that was found
+--   found_number, number_row   a row number as code gives it, and as a number
 use mathlib.Core.Path.{◌≡◌, refl, sym, ap, ◌∙◌, subst}
 use mathlib.Core.Bool.{Bool, true, false, ◌||◌}
 use mathlib.Core.List.Memᴰ
@@ -33,8 +33,8 @@ use Rattle.division.specs.Descent.{insert, distinct, last, numbers_from, exponen
 use Rattle.division.proofs.NumberLaws.{distinct_in, map_in, numbers_in}
 use Rattle.division.proofs.DescentLaws.{exponents_in, stepped_on_in, stepped_on_make, tests_goes_on}
 use Rattle.division.specs.Ranges.{range, GroupRange, FirstLarger, with_steps}
-use Rattle.division.specs.Scan.{found_row}
-use Rattle.division.specs.declared.Found.TheVariants.{Row, Nothing}
+use Rattle.division.specs.Scan.{found_row, number_found}
+use Rattle.std.specs.Prelude as code
 use Rattle.terms.specs.declared.RowNumber.{RowNumber}
 
 -- ---- the distinct numbers of a list
@@ -330,10 +330,10 @@ module _ {G : Table} {i lo hi : ℕ} (ascends : Ascending G) (R : GroupRange G i
 
 -- ---- the answer of the code
 
-pub found_some : (o : Option ℕ) (r : RowNumber) → found_row o ≡ Row r → o ≡ some r.0
-found_some none r f = absurd (let z : ◌≡◌ {A = ℕ} 0 1 = cc in omega arith)
-found_some (some x) r f = cc
+pub found_number : (f : code.Option RowNumber) → found_row (number_found f) ≡ f
+found_number code.None = refl
+found_number (code.Some r) = refl
 
-pub found_none : (o : Option ℕ) → found_row o ≡ Nothing → o ≡ none
-found_none none f = refl
-found_none (some x) f = absurd (let z : ◌≡◌ {A = ℕ} 0 1 = cc in omega arith)
+pub number_row : (o : Option ℕ) → number_found (found_row o) ≡ o
+number_row none = refl
+number_row (some r) = refl

@@ -5,15 +5,16 @@
 --   AnswersFirst M G q o   o is the first row number that is a divisor of q, or none where there is none
 --   scan G q         the first row number of a Janet divisor of q in G
 --   found_test o     o is a row number, and not none
---   found_row o      o as the enum that code gives
+--   found_row o      o as code gives it
+--   number_found f   what code gives, as a number
 use Rattle.std.specs.Prelude.{Bool, true, false, [], ◌∷◌, ℕ, suc, ◌<◌}
 use Rattle.std.proofs.Math.Option.{Option, none, some}
 use Rattle.checks.specs.Tests.{pick}
 use Rattle.terms.specs.Monomials.{Monomial, Table}
 use Rattle.division.specs.Cones.{Division, DivisorAt}
 use Rattle.division.specs.Janet.{janet_test}
-use Rattle.division.specs.declared.Found.{Found}
-use Rattle.division.specs.declared.Found.TheVariants.{Row, Nothing}
+use Rattle.terms.specs.declared.RowNumber.{RowNumber}
+use Rattle.std.specs.Prelude as code
 
 abbrev pub Answers : Division → Table → Monomial → Option ℕ → Type 0
 Answers M G q none = (r : ℕ) → DivisorAt M G r q → ⊥
@@ -41,6 +42,10 @@ abbrev pub found_test : Option ℕ → Bool
 found_test none = false
 found_test (some r) = true
 
-abbrev pub found_row : Option ℕ → Found
-found_row none = Nothing
-found_row (some r) = Row (record { 0 = r })
+abbrev pub found_row : Option ℕ → code.Option RowNumber
+found_row none = code.None
+found_row (some r) = code.Some (record { 0 = r })
+
+abbrev pub number_found : code.Option RowNumber → Option ℕ
+number_found code.None = none
+number_found (code.Some r) = some r.0

@@ -8,9 +8,12 @@
 --   run_next     stepping along a variable comes to the next exponent
 --   run_gap, run_down, run_shared   it ends with nothing, or calls for the next variable
 --   ready_empty, descent_all, reached_start   the whole table
-use mathlib.Core.Path.{◌≡◌, sym, ◌∙◌, subst}
+--   found_ok         the row number that the code's descent gives
+use mathlib.Core.Path.{◌≡◌, refl, sym, ◌∙◌, subst}
 use mathlib.Core.List.{[], ◌∷◌}
-use mathlib.Core.Option.{none, some}
+use mathlib.Core.Option.{Option, none, some}
+use Rattle.std.specs.Result.{result_ok}
+use Rattle.division.specs.Scan.{number_found}
 use mathlib.Core.Logic.{by_cases}
 use Prim.Native.Nat.{ℕ, zero, suc, ◌+◌, ◌-◌, ◌≤◌, ◌<◌}
 use native.Mathlib.Nat.{not-suc-le-zero}
@@ -23,7 +26,7 @@ use Rattle.terms.specs.Order.{Ascending}
 use Rattle.division.specs.Descent.{Descent, first, numbers_from, descend, descent}
 use Rattle.division.proofs.DescentLaws.{descent_empty}
 use Rattle.division.specs.Ranges.{range, GroupRange, FirstLarger, with_steps, descend_from}
-use Rattle.finding.specs.Stepping.{Between, Reached, AtRun}
+use Rattle.finding.specs.Stepping.{Between, Reached, AtRun, found_or_ended}
 use Rattle.division.specs.Checks.{Ready}
 use Rattle.division.proofs.RangeLaws.{range_cons, range_all, ascends_at, range_above, range_shared, range_none, range_next, range_gap, range_down}
 
@@ -171,3 +174,9 @@ reached_start n G q R e p = record {
   variable = omega arith;
   left = omega (arith, R.limited, R.six);
 }
+
+-- ---- the answer
+
+pub found_ok : (o : Option ℕ) (e : ℕ) → number_found (result_ok (found_or_ended o e)) ≡ o
+found_ok none e = refl
+found_ok (some r) e = refl

@@ -6,7 +6,8 @@ pub mod search;
 
 ghost use Rattle.std.specs.Prelude.{◌≡◌, suc, ◌+◌, ◌-◌, ◌≤◌, ◌<◌, length};
 ghost use Rattle.terms.specs.Monomials.{◌!◌, row_at};
-ghost use Rattle.terms.specs.Rows.{rows};
+ghost use Rattle.terms.specs.Rows.{rows_of};
+ghost use Rattle.checks.specs.Outcomes.{number_of};
 ghost use Rattle.checks.specs.Refusals.{refusal};
 ghost use Rattle.division.specs.Descent.{descent};
 ghost use Rattle.finding.specs.Operation.{find_checks, FindPromise};
@@ -14,194 +15,155 @@ ghost use Rattle.division.specs.Ranges.{with_steps, descend_from};
 ghost use Rattle.finding.specs.Stepping.{AtLastRun, Reached, descended};
 ghost use Rattle.division.specs.Checks.{Ready};
 
-use crate::search::larger_from;
-use division::Found;
-use terms::{RowNumber, Variable, ascends, exponent, table_refusal};
+use crate::search::{Range, larger_from};
+use checks::Refusal;
+use terms::{FlatTable, RowNumber, Variable};
 
-// What a descent gives: what it found, the number of exponents stepped on, and the variable at which it ended with
-// nothing, 0 where it found a row.
+// What a descent gives: the row that it found, or the variable at which it ended with nothing; and the number of exponents stepped on.
 #[derive(Clone, Copy)]
 pub struct Descended {
-    pub found: Found,
+    pub found: Result<RowNumber, Variable>,
     pub steps: usize,
-    pub ended: Variable,
 }
 
-// Where stepping along a variable ended: the rows `low` to before `high` have the last exponent stepped on, and `steps`
-// exponents were stepped on before it.
+// Where a descent is: at variable i, in a group of rows, with so many exponents stepped on before.
 #[derive(Clone, Copy)]
-struct Run {
-    low: RowNumber,
-    high: RowNumber,
+struct Position {
+    i: Variable,
+    group: Range,
     steps: usize,
 }
 
-// Steps along the exponents of the group at variable i that do not exceed the query's, of which there is one. Each search
-// starts where the rows of the exponent would end if they were as many as those of the one before.
-fn along(
-    n: usize,
-    table: &[u8],
-    query: &[u8],
-    i: Variable,
-    lo: RowNumber,
-    hi: RowNumber,
-    steps: usize,
-) -> Run
-    requires { (i.0 ≤ n) × Reached n (rows n table.now) query.now i.0 lo.0 hi.0 steps
-        × (row_at (rows n table.now) lo.0 ! i.0 ≤ query.now ! i.0) }
-    ensures { AtLastRun n (rows n table.now) query.now i.0 lo.0 hi.0 steps result.low.0 result.high.0 result.steps }
+// Steps along the exponents of the group at variable i that do not exceed the query's, of which there is one. It ends at the rows that have the last
+// exponent stepped on, with the exponents stepped on before it. Each search starts where the rows of the exponent would end if they were as many as
+// those of the one before.
+fn along(table: FlatTable, query: &[u8], at: Position) -> Position
+    requires { (at.i.0 ≤ table.n) × Reached table.n (rows_of table) query.now at.i.0 at.group.low.0 at.group.high.0 at.steps
+        × (row_at (rows_of table) at.group.low.0 ! at.i.0 ≤ query.now ! at.i.0) }
+    ensures { AtLastRun table.entry.n (rows_of table.entry) query.now at.i.0 at.group.low.0 at.group.high.0 at.steps
+        result.group.low.0 result.group.high.0 result.steps × (result.i.0 ≡ at.i.0) }
 {
-    let variable = i.0;
-    let most = query[variable - 1];
-    let end = hi.0;
-    let mut low = lo.0;
-    let mut taken = steps;
-    let mut high = larger_from(n, table, i, lo, hi, 1).0;
+    let most = query[at.i.0 - 1];
+    let end = at.group.high;
+    let mut low = at.group.low;
+    let mut steps = at.steps;
+    let mut high = larger_from(table, at.i, at.group, 1);
     while high < end {
-        if most < exponent(n, table, RowNumber(high), i) {
-            return Run {
-                low: RowNumber(low),
-                high: RowNumber(high),
-                steps: taken,
-            };
+        if most < table.exponent(high, at.i) {
+            break;
         }
-        let near = high - low;
+        let near = high.0 - low.0;
         low = high;
-        taken += 1;
-        high = larger_from(n, table, i, RowNumber(low), RowNumber(end), near).0;
+        steps += 1;
+        high = larger_from(table, at.i, Range { low, high: end }, near);
     }
-    Run {
-        low: RowNumber(low),
-        high: RowNumber(high),
-        steps: taken,
+    Position {
+        i: at.i,
+        group: Range { low, high },
+        steps,
     }
 }
 
 // Steps along variable i, and calls for the next variable where the last exponent stepped on is the query's or the group's largest.
 #[cycle(descend_step)]
-fn step(
-    n: usize,
-    table: &[u8],
-    query: &[u8],
-    i: Variable,
-    lo: RowNumber,
-    hi: RowNumber,
-    steps: usize,
-) -> Descended
-    requires { (i.0 ≤ n) × Reached n (rows n table.now) query.now i.0 lo.0 hi.0 steps }
-    ensures { result ≡ descended (with_steps steps (descend_from n (rows n table.now) query.now i.0 lo.0 hi.0)) }
+fn step(table: FlatTable, query: &[u8], at: Position) -> Descended
+    requires { (at.i.0 ≤ table.n) × Reached table.n (rows_of table) query.now at.i.0 at.group.low.0 at.group.high.0 at.steps }
+    ensures { result ≡ descended (with_steps at.steps
+        (descend_from table.entry.n (rows_of table.entry) query.now at.i.0 at.group.low.0 at.group.high.0)) }
 {
-    let variable = i.0;
-    let most = query[variable - 1];
-    if most < exponent(n, table, lo, i) {
+    let most = query[at.i.0 - 1];
+    if most < table.exponent(at.group.low, at.i) {
         return Descended {
-            found: Found::Nothing,
-            steps,
-            ended: i,
+            found: Err(at.i),
+            steps: at.steps,
         };
     }
-    let last = along(n, table, query, i, lo, hi, steps);
-    let low = last.low;
-    let high = last.high;
-    let taken = last.steps + 1;
-    if high.0 < hi.0 {
-        if exponent(n, table, low, i) < most {
+    let last = along(table, query, at);
+    let steps = last.steps + 1;
+    if last.group.high < at.group.high {
+        if table.exponent(last.group.low, at.i) < most {
             return Descended {
-                found: Found::Nothing,
-                steps: taken,
-                ended: i,
+                found: Err(at.i),
+                steps,
             };
         }
     }
-    descend(n, table, query, Variable(variable + 1), low, high, taken)
+    let next = Position {
+        i: Variable(at.i.0 + 1),
+        group: last.group,
+        steps,
+    };
+    descend(table, query, next)
 }
 
 // Takes variable i, or finds the row that is left after the last.
 #[cycle(descend_step)]
-fn descend(
-    n: usize,
-    table: &[u8],
-    query: &[u8],
-    i: Variable,
-    lo: RowNumber,
-    hi: RowNumber,
-    steps: usize,
-) -> Descended
-    requires { (i.0 ≤ suc n) × Reached n (rows n table.now) query.now i.0 lo.0 hi.0 steps }
-    ensures { result ≡ descended (with_steps steps (descend_from n (rows n table.now) query.now i.0 lo.0 hi.0)) }
+fn descend(table: FlatTable, query: &[u8], at: Position) -> Descended
+    requires { (at.i.0 ≤ suc table.n) × Reached table.n (rows_of table) query.now at.i.0 at.group.low.0 at.group.high.0 at.steps }
+    ensures { result ≡ descended (with_steps at.steps
+        (descend_from table.entry.n (rows_of table.entry) query.now at.i.0 at.group.low.0 at.group.high.0)) }
 {
-    if n < i.0 {
+    if table.n < at.i.0 {
         return Descended {
-            found: Found::Row(lo),
-            steps,
-            ended: Variable(0),
+            found: Ok(at.group.low),
+            steps: at.steps,
         };
     }
-    step(n, table, query, i, lo, hi, steps)
+    step(table, query, at)
 }
 
 // The descent for the query in the whole table, without the checks (rule 6).
-pub fn descend_table(n: usize, table: &[u8], query: &[u8]) -> Descended
-    requires { Ready n (rows n table.now) × (length query.now ≡ n) }
-    ensures { result ≡ descended (descent n (rows n table.now) query.now) }
+pub fn descend_table(table: FlatTable, query: &[u8]) -> Descended
+    requires { Ready table.n (rows_of table) × (length query.now ≡ table.n) }
+    ensures { result ≡ descended (descent table.entry.n (rows_of table.entry) query.now) }
 {
-    let count = table.len() / n;
+    let count = table.row_count();
     if count == 0 {
         return Descended {
-            found: Found::Nothing,
+            found: Err(Variable(1)),
             steps: 0,
-            ended: Variable(1),
         };
     }
-    descend(
-        n,
-        table,
-        query,
-        Variable(1),
-        RowNumber(0),
-        RowNumber(count),
-        0,
-    )
+    let whole = Position {
+        i: Variable(1),
+        group: Range {
+            low: RowNumber(0),
+            high: RowNumber(count),
+        },
+        steps: 0,
+    };
+    descend(table, query, whole)
 }
 
-// The answer of `find`: the Janet divisor's row number with the steps, none with the steps, or a refusal.
+// What `find` answers: the row number of the query's Janet divisor, if there is one, and the number of exponents stepped on.
 #[derive(Clone, Copy)]
-pub enum FindAnswer {
-    Row(RowNumber, usize),
-    Nothing(usize),
-    Refused(u8),
+pub struct Finding {
+    pub row: Option<RowNumber>,
+    pub steps: usize,
 }
 
-// The number of the first of find's checks that refuses, 0 where none does.
-fn find_refusal(n: usize, table: &[u8], query: &[u8]) -> u8
-    ensures { result ≡ refusal (find_checks n table.now query.now) }
+// Find's checks.
+fn check_find(table: FlatTable, query: &[u8]) -> Result<(), Refusal>
+    ensures { number_of result ≡ refusal (find_checks table.entry.n table.entry.bytes.now query.now) }
 {
-    let refused = table_refusal(n, table);
-    if refused != 0 {
-        return refused;
+    table.check()?;
+    if query.len() != table.n {
+        return Err(Refusal::Argument);
     }
-    if query.len() != n {
-        return 5;
+    if !table.ascends() {
+        return Err(Refusal::Order);
     }
-    if !ascends(n, table) {
-        return 6;
-    }
-    0
+    Ok(())
 }
 
 // The row number of the query's Janet divisor in the table, or none, with the number of exponents stepped on (rule 6).
-pub fn find(n: usize, table: &[u8], query: &[u8]) -> FindAnswer
-    ensures { FindPromise n table.now query.now result }
+pub fn find(table: FlatTable, query: &[u8]) -> Result<Finding, Refusal>
+    ensures { FindPromise table.entry.n table.entry.bytes.now query.now result }
 {
-    let refused = find_refusal(n, table, query);
-    if refused != 0 {
-        return FindAnswer::Refused(refused);
-    }
-    let descent = descend_table(n, table, query);
-    let steps = descent.steps;
-    let found = descent.found;
-    match found {
-        Found::Row(row) => FindAnswer::Row(row, steps),
-        Found::Nothing => FindAnswer::Nothing(steps),
-    }
+    check_find(table, query)?;
+    let descent = descend_table(table, query);
+    Ok(Finding {
+        row: descent.found.ok(),
+        steps: descent.steps,
+    })
 }

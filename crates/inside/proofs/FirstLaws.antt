@@ -1,19 +1,20 @@
 -- Laws of the first row that divides a query.
 --
---   first_stops, first_goes_on, first_past   the search for the first row that divides, from a row on
+--   first_listed           a search through the row numbers finds the first row that divides
 --   divides_first          first_dividing is the first row number whose row divides the query, none exactly where the query is outside the ideal
 --   first_inside           where there is one the query is in the ideal
 --   padded_divides, first_padded   a row, and a query, that is filled up to six exponents
-use mathlib.Core.Path.{◌≡◌, refl, sym, ◌∙◌, subst}
-use mathlib.Core.Bool.{Bool, true, false}
-use mathlib.Core.List.{[], ◌∷◌}
+use mathlib.Core.Path.{◌≡◌, refl, sym, ap, ◌∙◌, subst}
+use mathlib.Core.Bool.{Bool, true, false, cond}
+use mathlib.Core.List.{List, [], ◌∷◌, map}
 use mathlib.Core.Option.{Option, none, some}
-use Prim.Native.Nat.{ℕ, zero, suc, ◌+◌, ◌≤◌, ◌<◌}
+use Prim.Native.Nat.{ℕ, zero, suc, ◌+◌, ◌<◌}
 use native.Mathlib.Nat.{not-suc-le-zero, le_of_suc-le-suc}
 use native.Mathlib.Numerals.{add-one}
 use native.Mathlib.Omega.{arith}
-use lib.ListN.{length, drop, drop_of_length-le}
-use lib.Seq.{drop-cons}
+use lib.ListN.{length}
+use Rattle.std.specs.Prelude as code
+use Rattle.std.specs.List.{find, range_with_len}
 use Rattle.checks.specs.Tests.{Tests, pick}
 use Rattle.checks.proofs.TestLaws.{tests_as, tests_same}
 use Rattle.terms.specs.Monomials.{Monomial, Table, row_at}
@@ -21,26 +22,37 @@ use Rattle.terms.specs.Ideal.{Divides, Inside, divides_test}
 use Rattle.terms.specs.Rows.{padded}
 use Rattle.terms.proofs.IdealLaws.{tests_divides}
 use Rattle.terms.proofs.RowsLaws.{padded_at, member_at, member_index}
+use Rattle.terms.specs.declared.RowNumber.{RowNumber}
+use Rattle.division.specs.Scan.{found_row}
 use Rattle.inside.specs.FirstDividing.{first_from, first_dividing, FirstDividing, DividesFirst}
 
 -- ---- the first row that divides
 
-module _ (G : Table) (q : Monomial) where
-  pub first_starts : first_dividing G q ≡ first_from 0 G q
-  unfolding first_dividing
-  first_starts = refl
+-- the row numbers of G from a on
+abbrev numbers : ℕ → Table → List RowNumber
+numbers a G = map (λ (k : ℕ). record { 0 = k }) (range_with_len a (length G))
 
-  pub first_stops : (k : ℕ) → k < length G → true ≡ divides_test (row_at G k) q → first_from k (drop k G) q ≡ some k
-  unfolding first_from
-  first_stops k l e = rw (drop-cons G k [] l, ← e)
+-- the rows G stand in the table H from row a on
+listed_from : (G H : Table) (q : Monomial) (a : ℕ) → ((i : ℕ) → row_at H (a + i) ≡ row_at G i)
+    → find (λ (r : RowNumber). divides_test (row_at H r.0) q) (numbers a G) ≡ found_row (first_from a G q)
+unfolding first_from
+listed_from [] H q a h = refl
+listed_from (u ∷ G) H q a h =
+    let z : a + 0 ≡ a = omega arith in
+    let first : row_at H a ≡ u = rw z at (h 0) in
+    let rest = listed_from G H q (a + 1) (λ i. let y : a + 1 + i ≡ a + suc i = omega arith in rw y (h (suc i))) in
+    rw (first, rest) (go (divides_test u q) (a + 1) (add-one a))
+  where
+    go : (b : Bool) (k : ℕ) → k ≡ suc a
+        → cond b (code.Some (record { 0 = a })) (found_row (first_from k G q)) ≡ found_row (pick b (some a) (first_from (suc a) G q))
+    go true k e = refl
+    go false k e = rw e
 
-  pub first_goes_on : (k : ℕ) → k < length G → false ≡ divides_test (row_at G k) q → first_from k (drop k G) q ≡ first_from (k + 1) (drop (k + 1) G) q
-  unfolding first_from
-  first_goes_on k l e = rw (drop-cons G k [] l, ← e, add-one)
-
-  pub first_past : (k : ℕ) → length G ≤ k → first_from k (drop k G) q ≡ none
-  unfolding first_from
-  first_past k l = rw (drop_of_length-le G l)
+-- what a search through the row numbers finds
+pub first_listed : (G : Table) (q : Monomial)
+    → find (λ (r : RowNumber). divides_test (row_at G r.0) q) (numbers 0 G) ≡ found_row (first_dividing G q)
+unfolding first_dividing
+first_listed G q = listed_from G G q 0 (λ i. ap (row_at G) (omega arith))
 
 -- what `first_from` gives of rows that are numbered from r on
 abbrev FirstOf : Table → Monomial → ℕ → Option ℕ → Type 0

@@ -1,3 +1,2 @@
--- What the exported functions need: their answers fit 32 bits, and what they hand out is what an answer says.
+-- What the exported functions need: their answers fit 32 bits.
 pub mod Bounds
-pub mod ExportLaws

@@ -3,15 +3,18 @@
 #![tactic(auto)]
 
 ghost use Rattle.std.specs.Prelude.{◌≡◌};
+ghost use Rattle.checks.specs.Outcomes.{number_of};
 ghost use Rattle.checks.specs.Refusals.{refusal};
 ghost use Rattle.bundle.specs.Checks.{bundle_checks};
 
-// Writes part j of the output for a bundle that is refused by that number; whether all of it was written.
-fn write_part(bundle: &[u8], refused: u8, j: usize) -> bool
-    requires { refused ≡ refusal (bundle_checks bundle.now) }
+use checks::Refusal;
+
+// Writes part j of the output for a bundle that was checked; whether all of it was written.
+fn write_part(bundle: &[u8], checked: Result<(), Refusal>, j: usize) -> bool
+    requires { number_of checked ≡ refusal (bundle_checks bundle.now) }
 {
     let mut out = [0u8; listing::TEXT_SIZE];
-    let size = listing::part_text_checked(bundle, refused, j, &mut out);
+    let size = listing::part_text_checked(bundle, checked, j, &mut out);
     io::write_all(1, &out[..size])
 }
 
@@ -22,14 +25,12 @@ fn tell_failure() {
 
 // Writes the parts of the output in order; stops at the first that could not be written, and tells it on standard error. The bundle is checked once.
 fn write_parts(bundle: &[u8]) {
-    let refused = bundle::bundle_refusal(bundle);
-    let mut j = 0;
-    while j < bundle::MOST_TABLES {
-        if !write_part(bundle, refused, j) {
+    let checked = bundle::check_bundle(bundle);
+    for j in 0..bundle::MOST_TABLES {
+        if !write_part(bundle, checked, j) {
             tell_failure();
             return;
         }
-        j += 1;
     }
 }
 

@@ -58,14 +58,14 @@ unfolding whole_text
 whole_text_length j given H marks steady = simp length-append
 
 -- The text part by part, as it is written, with the numbers as they are computed; and the lengths of the parts.
-module _ (j : ℕ) (H : Table) (marks : List ℕ) {given count made steady s : ℕ} (e : given ≡ count) (f : length H ≡ made) (g : s ≡ steady) where
-  pub whole_text_parts : table_line j count made ++ row_lines H marks (length H) ++ steady_line s ≡ whole_text j given H marks steady
+module _ (j given : ℕ) (H : Table) (marks : List ℕ) {made steady s : ℕ} (f : made ≡ length H) (g : s ≡ steady) where
+  pub whole_text_parts : table_line j given made ++ row_lines H marks (length H) ++ steady_line s ≡ whole_text j given H marks steady
   unfolding whole_text
-  whole_text_parts = rw (← e, ← f, g) (append_assoc (table_line j given (length H)) (row_lines H marks (length H)) (steady_line steady))
+  whole_text_parts = rw (f, g) (append_assoc (table_line j given (length H)) (row_lines H marks (length H)) (steady_line steady))
 
   pub whole_text_sum : length (whole_text j given H marks steady)
-      ≡ length (table_line j count made) + (length (row_lines H marks (length H)) + length (steady_line s))
-  whole_text_sum = rw (← e, ← f, g) (whole_text_length j given H marks steady)
+      ≡ length (table_line j given made) + (length (row_lines H marks (length H)) + length (steady_line s))
+  whole_text_sum = rw (f, g) (whole_text_length j given H marks steady)
 
 whole_text_bound : (j given : ℕ) (H : Table) (marks : List ℕ) (steady : ℕ) → j < 100 → given ≤ 4096 → length H ≤ 4096 → steady ≤ 300
     → ((k : ℕ) → k < length H → length (row_line (row_at H k) (get_or marks k 0)) ≤ 23)

@@ -26,8 +26,8 @@ use Rattle.listing.specs.Text.{bundle_text}
 
 -- the output, with every definition that it rests on open to computation
 unfoldable output : List ℕ → List ℕ
-unfolding bundle_text tables_text table_text completed_text whole_text row_lines table_line row_line steady_line no_room_line refusal_line fields decimal digits_of
-    refusal tables_checks row_count offset_of place_of rows first_rows equal_rows_test same_test
+unfolding bundle_text tables_text table_text completed_text whole_text row_lines table_line row_line steady_line no_room_line refusal_line
+    fields decimal digits_of refusal tables_checks row_count offset_of place_of rows first_rows equal_rows_test same_test
     completed completed_test enters_test candidate largest joined box behind repeated inside_test divides_test
     table_marks marks_of marks_byte multiplicative_test group same_before_test steady_of degree
 output b = bundle_text b

@@ -1,8 +1,9 @@
 -- Laws of the output part by part.
 --
---   part_refused, part_silent, part_none   what is written of a refused bundle, and where there is no table j
+--   part_refused, part_silent   what is written of a refused bundle
+--   part_none, part_first  what is written where no table is located
 --   refusal_line_bound     the line of a refusal has room
---   Found b j f t          what is known of the bytes t of table j of an accepted bundle, found by `locate`
+--   Found b j t            what is known of the table t that `part` shows where `locate` found table j
 --   table_part             part j of an accepted bundle is the text of its table j
 --   part_found             it is known of each table that is found
 --   part_written           a text written from the start that is part j keeps the promise
@@ -12,7 +13,7 @@ use mathlib.Core.Path.{◌≡◌, refl, sym, ap, ◌∙◌}
 use mathlib.Core.List.{List, [], ◌++◌, append-nil}
 use mathlib.Core.Logic.{by_cases}
 use Prim.Native.Nat.{ℕ, zero, suc, ◌+◌, ◌*◌, ◌-◌, ◌≤◌, ◌<◌}
-use native.Mathlib.Nat.{zero-add, suc-add}
+use native.Mathlib.Nat.{zero-add, suc-add, pos_of_ne-zero}
 use native.Mathlib.Decide.{ℕ_discrete}
 use native.Mathlib.Omega.{arith}
 use lib.Dec.{eqb, ltb}
@@ -20,17 +21,23 @@ use lib.ListN.{length, take, drop, length-append}
 use lib.Seq.{take-append_seam}
 use Rattle.checks.specs.Tests.{pick}
 use Rattle.checks.proofs.TestLaws.{pick_true, pick_false, tests_lt, tests_eq}
-use Rattle.terms.specs.Rows.{rows}
+use Rattle.terms.specs.Rows.{rows_of}
+use Rattle.terms.specs.declared.FlatTable.{FlatTable}
 use Rattle.checks.specs.Refusals.{refusal}
 use Rattle.distinct.specs.EqualRows.{distinct_checks}
 use Rattle.distinct.proofs.CheckLaws.{distinct_table}
-use Rattle.bundle.specs.Format.{variables_of, table_count, body_of, table_of}
-use Rattle.bundle.specs.Checks.{bundle_checks, open_checks}
+use Rattle.bundle.specs.Format.{variables_of, table_count, table_of}
+use Rattle.bundle.specs.Checks.{bundle_checks, number_checks}
+use Rattle.checks.proofs.RefusalLaws.{refusal_first}
 use Rattle.bundle.specs.Operation.{LocatePromise}
 use Rattle.bundle.specs.declared.Located.{Located}
-use Rattle.bundle.proofs.AcceptedLaws.{accepted_bundle, table_passes_checks}
-use Rattle.checks.proofs.RefusalLaws.{answered_accepted}
-use Rattle.bundle.proofs.ReadLaws.{numbers, opens_table, open_accepted, body_shown}
+use Rattle.bundle.proofs.AcceptedLaws.{accepted_bundle, bundle_accepted, table_passes_checks}
+use Rattle.bundle.proofs.ReadLaws.{opens_table, open_accepted, found_shows}
+use Rattle.std.specs.Prelude.{Ok, Err}
+use Rattle.checks.specs.declared.Refusal.{Refusal}
+use Rattle.checks.specs.declared.Refusal.TheVariants.{Variables, Length, Rows, Entry, Argument, Order, Incomplete, Room, Frame, Place, End, EqualRows}
+use Rattle.checks.specs.Outcomes.{number}
+use Rattle.checks.proofs.OutcomeLaws.{number_positive}
 use Rattle.text.proofs.DecimalLaws.{decimal_length}
 use Rattle.listing.specs.Text.{text_size, refusal_line, table_text, tables_text, bundle_text, part_text, parts_text}
 use Rattle.writing.specs.Written.{written, Wrote}
@@ -46,7 +53,8 @@ refused_part b j {m} e f =
     ap (λ (k : ℕ). pick (eqb j 0) (refusal_line k) []) e
     ∙ pick_false (tests_eq (refusal (bundle_checks b)) 0) _ _ (λ z. f (e ∙ z))
 
-accepted_part : (b : List ℕ) (j : ℕ) → refusal (bundle_checks b) ≡ 0 → pick (ltb j (table_count b)) (table_text (variables_of b) j (table_of b j)) [] ≡ part_text b j
+accepted_part : (b : List ℕ) (j : ℕ) → refusal (bundle_checks b) ≡ 0
+    → pick (ltb j (table_count b)) (table_text (variables_of b) j (table_of b j)) [] ≡ part_text b j
 unfolding part_text
 accepted_part b j e = pick_true (tests_eq (refusal (bundle_checks b)) 0) _ _ e
 
@@ -64,34 +72,56 @@ pub table_part : (b : List ℕ) (j : ℕ) → refusal (bundle_checks b) ≡ 0 �
 table_part b j e h =
     pick_true (tests_lt j (table_count b)) (table_text (variables_of b) j (table_of b j)) [] h ∙ accepted_part b j e
 
-pub part_none : (b : List ℕ) (j : ℕ) {m : ℕ} {f : Located} → m ≡ refusal (bundle_checks b) → m ≡ 0 → LocatePromise b j f
-    → (f.refusal ≡ 0 → ⊥) → [] ≡ part_text b j
-part_none b j e z p g = past_part b j (sym e ∙ z) (λ h. g (p.number ∙ sym (opens_table b j (sym e ∙ z) h)))
+-- a table that is not located
+pub part_none : (b : List ℕ) (j : ℕ) {e : Refusal} → LocatePromise b j (Err e) → (j ≡ 0 → ⊥) → [] ≡ part_text b j
+part_none b j {e} p f = by_cases (ℕ_discrete (refusal (bundle_checks b)) 0)
+    (λ z. past_part b j z (λ h. omega (arith, p.number, opens_table b j z h, number_positive e)))
+    (λ g. part_silent b j refl g f)
 
-pub refusal_line_bound : (m : ℕ) → m < 256 → length (refusal_line m) ≤ text_size
-refusal_line_bound m h = omega (arith, refusal_line_length m, decimal_length 2 m (omega arith))
+-- in part 0 the bundle is refused: one that is accepted has a table 0
+pub part_first : (b : List ℕ) (j : ℕ) {e : Refusal} → LocatePromise b j (Err e) → j ≡ 0 → refusal_line (number e) ≡ part_text b j
+part_first b j {e} p z = by_cases (ℕ_discrete (refusal (bundle_checks b)) 0)
+    (λ y.
+    let some = (accepted_bundle b y).layout.frame.some_tables in
+    absurd (omega (arith, p.number, opens_table b j y (omega arith), number_positive e)))
+    (λ g. part_refused b j (p.number ∙ refusal_first (bundle_checks b) (number_checks b j) (pos_of_ne-zero g)) (λ y. omega (arith, number_positive e)) z)
+
+number_short : (e : Refusal) → number e < 1000
+number_short Variables = omega arith
+number_short Length = omega arith
+number_short Rows = omega arith
+number_short Entry = omega arith
+number_short Argument = omega arith
+number_short Order = omega arith
+number_short Incomplete = omega arith
+number_short Room = omega arith
+number_short Frame = omega arith
+number_short Place = omega arith
+number_short End = omega arith
+number_short EqualRows = omega arith
+
+pub refusal_line_bound : (e : Refusal) → length (refusal_line (number e)) ≤ text_size
+refusal_line_bound e = omega (arith, refusal_line_length (number e), decimal_length 2 (number e) (number_short e))
 
 -- ---- a table that is found
 
--- its bytes t are the part of the bundle that `part` shows
-pub record Found (b : List ℕ) (j : ℕ) (f : Located) (t : List ℕ) : Type 0 where
-  pub checks : refusal (distinct_checks f.n t) ≡ 0
-  pub text : table_text f.n j (rows f.n t) ≡ part_text b j
-  pub bound : length (table_text f.n j (rows f.n t)) ≤ text_size
+-- the table t is the part of the bundle that `part` shows
+pub record Found (b : List ℕ) (j : ℕ) (t : FlatTable) : Type 0 where
+  pub checks : refusal (distinct_checks t.n t.bytes.now) ≡ 0
+  pub text : table_text t.n j (rows_of t) ≡ part_text b j
+  pub bound : length (table_text t.n j (rows_of t)) ≤ text_size
 
-pub part_found : (b : List ℕ) (j : ℕ) {m : ℕ} {f : Located} {t : List ℕ} → m ≡ refusal (bundle_checks b) → m ≡ 0 → LocatePromise b j f → f.refusal ≡ 0
-    → t ≡ take (f.rows * f.n) (drop f.place b) → Found b j f t
-part_found b j {f = f} {t} g y p z s =
-    let e : refusal (open_checks b j) ≡ 0 = sym p.number ∙ z in
-    let a = open_accepted b j e in
-    let n : f.n ≡ variables_of b = (numbers b j f p e).0 in
-    let body : t ≡ body_of b j = s ∙ body_shown b j f p ∙ answered_accepted (open_checks b j) (body_of b j) [] e in
-    let checks : refusal (distinct_checks f.n t) ≡ 0 = rw (body, n) (table_passes_checks b a.0 j a.1) in
+pub part_found : (b : List ℕ) (j : ℕ) {f : Located} {t : FlatTable} → LocatePromise b j (Ok f) → t.n ≡ f.n
+    → t.bytes.now ≡ take (f.rows * f.n) (drop f.place b) → Found b j t
+part_found b j {f} {t} p v s =
+    let a = open_accepted b j (sym p.number) in
+    let shows = found_shows b j f p {t = t} v s in
+    let checks : refusal (distinct_checks t.n t.bytes.now) ≡ 0 = rw (shows.body, shows.variables) (table_passes_checks b a.0 j a.1) in
     let most = a.0.layout.frame.sixteen in
     record {
       checks = checks;
-      text = rw (body, n) (table_part b j (sym g ∙ y) a.1);
-      bound = text_bound f.n j t (distinct_table f.n t checks) (omega (arith, a.1));
+      text = rw (shows.body, shows.variables) (table_part b j (bundle_accepted b a.0) a.1);
+      bound = text_bound t.n j t.bytes.now (distinct_table t.n t.bytes.now checks) (omega (arith, a.1));
     }
 
 -- ---- what is promised of a part

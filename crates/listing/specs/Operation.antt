@@ -1,4 +1,4 @@
--- What `part_text` promises, and `part_text_checked`, which is told the refusal of the bundle.
+-- What `part_text` promises, and `part_text_checked`, which is told how the bundle was checked.
 --
 --   PartPromise b j before size after   part j of the output for the bundle b stands at the front of the buffer, so many bytes; the bytes
 --                    behind it are as they were

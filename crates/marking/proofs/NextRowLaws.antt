@@ -1,36 +1,39 @@
 -- Laws of the marks of a row from those of the next.
 --
---   power_small, power_double, all_shifted   the powers that the code meets are small
---   kept_marks, kept_small   what the code computes from the next row's marks
---   row_length, differs_within, differs_less, first_differing  the two rows up to their first difference, and there
---   next_marks             what the code gives are the marks, where no row stands between the two
---   own_exponent, next_exponent, next_asks, next_gives   two rows as the code holds them
---   carried_asks, carried_marks   the same in a walk over an ascending table, which carries the next row along
-use mathlib.Core.Path.{◌≡◌, sym, ap, ◌∙◌}
+--   power_double, all_shifted   the powers that the code meets are small
+--   FirstUnlike, SearchUnlike, first_unlike   the first place at which the exponents of two rows differ, and the search for it
+--   differs_within, first_differing   it is that of a variable, and what the code gives there are the next marks
+--   next_asks, next_gives  two rows that were read: what the code asks of them, and what it gives
+--   next_marks             what it gives are the marks, where no row stands between the two
+use mathlib.Core.Path.{◌≡◌, refl, sym, ap, ◌∙◌, subst}
 use mathlib.Core.List.{List}
 use mathlib.Core.Logic.{by_cases}
-use Prim.Native.Nat.{ℕ, suc, ◌+◌, ◌*◌, ◌-◌, ◌%◌, ◌^◌, ◌≤◌, ◌<◌}
-use native.Mathlib.Nat.{le_of_suc-le-suc, two-pow-succ, mod-eq_of_lt, mod-lt}
+use Prim.Native.Nat.{ℕ, zero, suc, ◌+◌, ◌*◌, ◌-◌, ◌%◌, ◌^◌, ◌≤◌, ◌<◌}
+use native.Mathlib.Nat.{le_of_suc-le-suc, two-pow-succ, mod-eq_of_lt}
 use native.Mathlib.Decide.{dec_lt}
 use native.Mathlib.Omega.{arith}
 use lib.Bits.{bit_and, and_mask}
-use lib.Pow.{pow_mono, pow_pos}
+use lib.Pow.{pow_mono}
 use lib.ListN.{length, get_or}
 use lib.Seq.{get_or-take, length-take-le}
-use Rattle.terms.specs.Monomials.{Monomial, Table, ◌!◌, ◌∈◌, row_at}
-use Rattle.terms.specs.Rows.{rows, as_row, monomial_of}
+use Rattle.std.specs.List.{zip, HoldsAt, AllWithin}
+use Rattle.std.specs.Option.{MatchOption}
+use Rattle.std.proofs.Common.{Option, Some}
+use Rattle.std.proofs.lemmas.Slice.Zip.{length-zip, get_or-zip}
+use Rattle.terms.specs.Monomials.{Monomial, Table, ◌!◌, ◌∈◌}
+use Rattle.terms.specs.Rows.{as_row, monomial_of}
 use Rattle.terms.specs.declared.Row.{Row}
-use Rattle.terms.proofs.RowsLaws.{row_size, row_read, row_variables}
-use Rattle.terms.specs.Order.{Precedes, Ascending}
+use Rattle.terms.proofs.RowsLaws.{row_read, row_variables}
+use Rattle.terms.specs.Order.{Precedes}
 use Rattle.terms.proofs.MonomialLaws.{beyond}
 use Rattle.terms.proofs.LoopLaws.{not_before}
 use Rattle.division.specs.Janet.{marks_of}
-use Rattle.marking.specs.NextRow.{Differing, NextMarks}
-use Rattle.division.proofs.SuccessorLaws.{marks_next, marks_successor}
+use Rattle.marking.specs.NextRow.{NextMarks}
+use Rattle.division.proofs.SuccessorLaws.{marks_next}
 
 -- ---- marks_last, marks_by_next
 
-pub power_small : (n : ℕ) → n ≤ 6 → 2 ^ n ≤ 64
+power_small : (n : ℕ) → n ≤ 6 → 2 ^ n ≤ 64
 power_small n h = pow_mono {i = n} {j = 6} h
 
 pub all_shifted : (n : ℕ) → n ≤ 6 → 1 * 2 ^ n % 256 ≡ 2 ^ n
@@ -43,33 +46,14 @@ pub power_double : (n i : ℕ) → i < n → n ≤ 6 → (2 * 2 ^ i ≤ 2 ^ n) �
 power_double n i l h = (omega (arith, two-pow-succ i, pow_mono {i = suc i} {j = n} l), power_small n h)
 
 -- what the code computes of the next row's marks m at the variable suc i
-pub kept_marks : (n i m all p : ℕ) → i < n → p ≡ 2 ^ i → all + 1 ≡ 2 ^ n → bit_and m (p - 1) + (all + 1 - 2 * p) + 2 ^ suc i ≡ m % 2 ^ i + 2 ^ n
+kept_marks : (n i m all p : ℕ) → i < n → p ≡ 2 ^ i → all + 1 ≡ 2 ^ n → bit_and m (p - 1) + (all + 1 - 2 * p) + 2 ^ suc i ≡ m % 2 ^ i + 2 ^ n
 kept_marks n i m all p l e f =
     let b : bit_and m (p - 1) ≡ m % 2 ^ i = ap (λ (x : ℕ). bit_and m (x - 1)) e ∙ and_mask m i in
     omega (arith, two-pow-succ i, pow_mono {i = suc i} {j = n} l)
 
-pub kept_small : (n i m all p : ℕ) → i < n → n ≤ 6 → p ≡ 2 ^ i → all + 1 ≡ 2 ^ n → bit_and m (p - 1) + (all + 1 - 2 * p) < 64
-kept_small n i m all p l h e f =
-    omega (arith, kept_marks n i m all p l e f, mod-lt m (pow_pos i), two-pow-succ i, pow_mono {i = suc i} {j = n} l, power_small n h)
-
 -- a row as the code holds it has n exponents
-pub row_length : (r : Row) → length r.exponents ≡ 6 → r.n ≤ 6 → length (monomial_of r) ≡ r.n
+row_length : (r : Row) → length r.exponents ≡ 6 → r.n ≤ 6 → length (monomial_of r) ≡ r.n
 row_length r e h = length-take-le r.n r.exponents (omega arith)
-
--- a row that precedes another of n exponents differs from it at one of n variables: as long as they are the same, some are left
-pub differs_within : (n : ℕ) (u w : Monomial) (i : ℕ) → length u ≡ n → length w ≡ n → Precedes u w → ((j : ℕ) → j ≤ i → u ! j ≡ w ! j) → i < n
-differs_within n u w i d e p same = by_cases (dec_lt i n) (λ l. l) (λ g. by_cases (dec_lt i p.at)
-    (λ l. absurd (omega (arith, p.less, beyond u p.at (omega arith), beyond w p.at (omega arith))))
-    (λ o. absurd (omega (arith, p.less, same p.at (omega arith)))))
-
--- at the first difference the row that precedes the other is the smaller
-pub differs_less : (u w : Monomial) (i : ℕ) → Precedes u w → ((j : ℕ) → j ≤ i → u ! j ≡ w ! j) → (u ! suc i ≡ w ! suc i → ⊥) → u ! suc i < w ! suc i
-differs_less u w i p same g = by_cases (dec_lt (u ! suc i) (w ! suc i)) (λ l. l) (λ o. absurd (not_before u w i same (omega (arith, g)) p))
-
-pub first_differing : (n : ℕ) (u w : Monomial) (m all p i : ℕ) → i < n → p ≡ 2 ^ i → all + 1 ≡ 2 ^ n → ((j : ℕ) → j ≤ i → u ! j ≡ w ! j)
-    → u ! suc i < w ! suc i → Differing n u w m (bit_and m (p - 1) + (all + 1 - 2 * p)) i
-first_differing n u w m all p i l e f same h =
-    record { variable = l; same = λ j t. same j (le_of_suc-le-suc t); less = h; marks = kept_marks n i m all p l e f }
 
 -- ---- they are the marks
 
@@ -80,11 +64,73 @@ next_marks n G u w m none r d = omega (arith, d.1.marks, marks_next n G u w m no
 -- ---- the rows as the code holds them
 
 -- the first n exponents of the six decide
-pub own_exponent : (r : Row) (i : ℕ) → i < r.n → monomial_of r ! suc i ≡ get_or r.exponents i 0
+own_exponent : (r : Row) (i : ℕ) → i < r.n → monomial_of r ! suc i ≡ get_or r.exponents i 0
 own_exponent r i h = get_or-take r.n r.exponents i 0 h
 
-pub next_exponent : (r s : Row) → s.n ≡ r.n → (i : ℕ) → i < r.n → monomial_of s ! suc i ≡ get_or s.exponents i 0
+next_exponent : (r s : Row) → s.n ≡ r.n → (i : ℕ) → i < r.n → monomial_of s ! suc i ≡ get_or s.exponents i 0
 next_exponent r s e i h = own_exponent s i (omega arith)
+
+-- two lists differ first at place i
+pub record FirstUnlike (xs ys : List ℕ) (i : ℕ) : Type 0 where
+  pub unlike : get_or xs i 0 ≡ get_or ys i 0 → ⊥
+  pub alike : (j : ℕ) → j < i → get_or xs j 0 ≡ get_or ys j 0
+
+-- what the search for the first pair that differs says of what it found
+abbrev pub SearchUnlike : List ℕ → List ℕ → Option ℕ → Type 0
+SearchUnlike xs ys found = MatchOption found (AllWithin (λ (x : ℕ × ℕ). x.0 ≡ x.1) (zip xs ys) 0 (length (zip xs ys)))
+    (λ i. (i < length (zip xs ys)) × HoldsAt (λ (x : ℕ × ℕ). x.0 ≡ x.1 → ⊥) (zip xs ys) i × AllWithin (λ (x : ℕ × ℕ). x.0 ≡ x.1) (zip xs ys) 0 i)
+
+module _ (xs ys : List ℕ) where
+  at_zip : (j : ℕ) → j < length (zip xs ys) → get_or (zip xs ys) j (0, 0) ≡ (get_or xs j 0, get_or ys j 0)
+  at_zip j l = get_or-zip xs ys j (0, 0) (omega (arith, length-zip xs ys)) (omega (arith, length-zip xs ys))
+
+  alike_below : (i : ℕ) → i ≤ length (zip xs ys) → AllWithin (λ (x : ℕ × ℕ). x.0 ≡ x.1) (zip xs ys) 0 i → (j : ℕ) → j < i → get_or xs j 0 ≡ get_or ys j 0
+  alike_below i h a j l = subst (λ (x : ℕ × ℕ). x.0 ≡ x.1) (at_zip j (omega arith)) (a j (0, 0) (omega arith) l)
+
+  pub first_unlike : (i : ℕ) → SearchUnlike xs ys (Some i) → FirstUnlike xs ys i
+  first_unlike i h = record {
+    unlike = subst (λ (x : ℕ × ℕ). x.0 ≡ x.1 → ⊥) (at_zip i h.0) (h.1 (0, 0));
+    alike = alike_below i (omega (arith, h.0)) h.2;
+  }
+
+-- two rows of which the first precedes the second
+module _ (row next : Row) (long : length row.exponents ≡ 6) (next-long : length next.exponents ≡ 6) (six : row.n ≤ 6) (width : next.n ≡ row.n)
+    (p : Precedes (monomial_of row) (monomial_of next)) where
+  -- up to exponents that are alike they are the same
+  same : (i : ℕ) → ((j : ℕ) → j < i → get_or row.exponents j 0 ≡ get_or next.exponents j 0) → (j : ℕ) → j < suc i → monomial_of row ! j ≡ monomial_of next ! j
+  same i alike zero l = refl
+  same i alike (suc j) l = by_cases (dec_lt j row.n)
+      (λ h. own_exponent row j h ∙ alike j (le_of_suc-le-suc l) ∙ sym (next_exponent row next width j h))
+      (λ g. beyond (monomial_of row) (suc j) (omega (arith, row_length row long six))
+      ∙ sym (beyond (monomial_of next) (suc j) (omega (arith, row_length next next-long (omega arith)))))
+
+  -- so they are alike no further than the variables go
+  alike_within : (i : ℕ) → ((j : ℕ) → j < i → get_or row.exponents j 0 ≡ get_or next.exponents j 0) → i < row.n
+  alike_within i alike = by_cases (dec_lt i row.n) (λ l. l) (λ g. by_cases (dec_lt i p.at)
+      (λ l. absurd (omega (
+        arith,
+        p.less,
+        beyond (monomial_of row) p.at (omega (arith, row_length row long six)),
+        beyond (monomial_of next) p.at (omega (arith, row_length next next-long (omega arith))),
+      )))
+      (λ o. absurd (omega (arith, p.less, same i alike p.at (omega arith)))))
+
+  -- the place is that of a variable, and the row has less there
+  module _ (i : ℕ) (f : FirstUnlike row.exponents next.exponents i) where
+    pub differs_within : i < row.n
+    differs_within = alike_within i f.alike
+
+    less : monomial_of row ! suc i < monomial_of next ! suc i
+    less = by_cases (dec_lt (monomial_of row ! suc i) (monomial_of next ! suc i)) (λ l. l)
+        (λ o. absurd (not_before (monomial_of row) (monomial_of next) i (λ j l. same i f.alike j (omega arith)) (omega (arith, differs)) p))
+      where
+        differs : monomial_of row ! suc i ≡ monomial_of next ! suc i → ⊥
+        differs e = f.unlike (sym (own_exponent row i differs_within) ∙ e ∙ next_exponent row next width i differs_within)
+
+    pub first_differing : (m all power : ℕ) → power ≡ 2 ^ i → all + 1 ≡ 2 ^ row.n
+        → NextMarks row.n (monomial_of row) (monomial_of next) m (bit_and m (power - 1) + (all + 1 - 2 * power))
+    first_differing m all power e g =
+        (i, record { variable = differs_within; same = same i f.alike; less = less; marks = kept_marks row.n i m all power differs_within e g })
 
 -- two rows that were read, of which the first precedes the second: what the code asks of them, and what it gives
 module _ (n : ℕ) (u w : Monomial) (row next : Row) (six : n ≤ 6) (size : length u ≡ n) (next-size : length w ≡ n)
@@ -98,28 +144,3 @@ module _ (n : ℕ) (u w : Monomial) (row next : Row) (six : n ≤ 6) (size : len
 
   pub next_gives : {m r : ℕ} → NextMarks row.n (monomial_of row) (monomial_of next) m r → NextMarks n u w m r
   next_gives d = rw (row_read n u is size, row_read n w next-is next-size, row_variables n u is) at d
-
--- ---- a walk from the last row of an ascending table to the first, which carries the next row along
-
--- no row stands between a row and the one behind it
-successor_marks : (n : ℕ) (G : Table) → Ascending G → (k : ℕ) → suc k < length G → (m r : ℕ) → m ≡ marks_of n G (row_at G (suc k))
-    → NextMarks n (row_at G k) (row_at G (suc k)) m r → r ≡ marks_of n G (row_at G k)
-successor_marks n G a k l m r e d =
-    omega (arith, d.1.marks, ap (λ (x : ℕ). x % 2 ^ d.0) e, marks_successor n G a k l d.0 d.1.variable d.1.same d.1.less)
-
--- the row before row k, and row k
-module _ (n : ℕ) (table : List ℕ) (six : n ≤ 6) (a : Ascending (rows n table)) (k : ℕ) (p : 0 < k) (l : k < length (rows n table)) (row next : Row)
-    (is : row ≡ as_row n (row_at (rows n table) (k - 1))) (next-is : next ≡ as_row n (row_at (rows n table) k)) where
-  abbrev G : Table
-  G = rows n table
-
-  back : suc (k - 1) ≡ k
-  back = omega arith
-
-  pub carried_asks : (row.n ≤ 6) × (next.n ≡ row.n) × Precedes (monomial_of row) (monomial_of next)
-  carried_asks = next_asks n (row_at G (k - 1)) (row_at G k) row next six (row_size n table (k - 1) (omega arith)) (row_size n table k l) is next-is
-      (rw back at (a (k - 1) (omega arith)))
-
-  pub carried_marks : (m r : ℕ) → m ≡ marks_of n G (row_at G k) → NextMarks row.n (monomial_of row) (monomial_of next) m r → r ≡ marks_of n G (row_at G (k - 1))
-  carried_marks m r e d = successor_marks n G a (k - 1) (omega arith) m r (rw back e)
-      (rw back (next_gives n (row_at G (k - 1)) (row_at G k) row next six (row_size n table (k - 1) (omega arith)) (row_size n table k l) is next-is d))

@@ -4,21 +4,19 @@
 --   marks_checks n table size  the checks in order: 1 to 4 and 12 of the table, 8
 --   Markable n G size     what is known once they pass
 --   marked n G buffer     the buffer with the marks of G's rows at its front; the bytes behind stay
---   marks_number     the paper's number of an answer, 0 for none
---   marks_answer m   the answer of that number: done, or the refusal
---   MarksPromise n table buffer answer after   the promise: the number is that of the first check that refuses, the answer is the one of
---                    that number, and the buffer is marked, or on refusal as it was
-use Rattle.std.specs.Prelude.{◌≡◌, List, [], ◌∷◌, ◌++◌, ℕ, ◌≤◌, ◌<◌, ltb, length, drop}
+--   MarksPromise n table buffer answer after   the promise: the number is that of the first check that refuses, and the buffer is marked,
+--                    or on refusal as it was
+use Rattle.std.specs.Prelude.{◌≡◌, List, [], ◌∷◌, ◌++◌, ℕ, ◌≤◌, ◌<◌, ltb, length, drop, Result, ⊤}
 use Rattle.std.proofs.Common.{lit<}
 use Rattle.checks.specs.Tests.{Tests}
 use Rattle.checks.proofs.TestLaws.{tests_lt}
 use Rattle.terms.specs.Monomials.{Table}
 use Rattle.terms.specs.Rows.{rows}
-use Rattle.checks.specs.Refusals.{Check, refusal, check, answered, numbered}
+use Rattle.checks.specs.declared.Refusal.{Refusal}
+use Rattle.checks.specs.Outcomes.{number_of}
+use Rattle.checks.specs.Refusals.{Check, refusal, check, answered}
 use Rattle.distinct.specs.EqualRows.{distinct_checks}
 use Rattle.division.specs.Janet.{table_marks}
-use Rattle.marking.specs.declared.MarksAnswer.{MarksAnswer}
-use Rattle.marking.specs.declared.MarksAnswer.TheVariants.{Done, Refused}
 
 -- ---- the checks
 
@@ -46,14 +44,6 @@ pub record Markable (n : ℕ) (G : Table) (size : ℕ) : Type 0 where
 abbrev pub marked : ℕ → Table → List ℕ → List ℕ
 marked n G buffer = table_marks n G ++ drop (length G) buffer
 
-abbrev pub marks_number : MarksAnswer → ℕ
-marks_number Done = 0
-marks_number (Refused m) = m
-
-abbrev pub marks_answer : ℕ → MarksAnswer
-marks_answer m = numbered m Refused Done
-
-pub record MarksPromise (n : ℕ) (table buffer : List ℕ) (answer : MarksAnswer) (after : List ℕ) : Type 0 where
-  pub number : marks_number answer ≡ refusal (marks_checks n table (length buffer))
-  pub settled : answer ≡ marks_answer (marks_number answer)
+pub record MarksPromise (n : ℕ) (table buffer : List ℕ) (answer : Result ⊤ Refusal) (after : List ℕ) : Type 0 where
+  pub number : number_of answer ≡ refusal (marks_checks n table (length buffer))
   pub writes : after ≡ answered (marks_checks n table (length buffer)) (marked n (rows n table) buffer) buffer

@@ -4,116 +4,85 @@
 pub mod next_row;
 
 ghost use Rattle.std.specs.Prelude.{◌≡◌, ◌≤◌, length};
-ghost use Rattle.terms.specs.Monomials.{Distinct};
-ghost use Rattle.terms.specs.Rows.{rows};
+ghost use Rattle.terms.specs.Rows.{rows_of};
 ghost use Rattle.terms.specs.Order.{Ascending};
-ghost use Rattle.terms.specs.TableChecks.{table_checks};
-ghost use Rattle.checks.specs.Refusals.{refusal};
-ghost use Rattle.ordering.specs.Listing.{Listing};
+ghost use Rattle.terms.specs.TableChecks.{TableAccepted};
+ghost use Rattle.marking.specs.InOrder.{GivesOrder};
 ghost use Rattle.marking.specs.Operation.{Markable, marked, MarksPromise};
 
 use crate::next_row::{marks_by_next, marks_last};
+use checks::Refusal;
 use distinct::has_equal_neighbours;
 use ordering::{list_rows, row_listed};
-use terms::{MOST_ROWS, RowNumber, ascends, row_at, table_refusal};
+use terms::{FlatTable, MOST_ROWS, RowNumber};
 
-// The answer of `marks`: that they are written, or a refusal.
-#[derive(Clone, Copy)]
-pub enum MarksAnswer {
-    Done,
-    Refused(u8),
-}
-
-// The marks of ascending rows, in one pass from the last: each row's from those of its successor.
-pub fn mark_ascending(n: usize, table: &[u8], buffer: &mut [u8])
-    requires { Markable n (rows n table.now) (length buffer.old) × Ascending (rows n table.now) }
-    ensures { buffer.new ≡ marked n (rows n table.now) buffer.old }
+// The marks of rows in any order, of which `number_at` gives those in ascending order: in one pass from the last, each row's from those of the next.
+fn mark_rows<F: Fn(usize) -> RowNumber>(table: FlatTable, number_at: F, buffer: &mut [u8])
+    requires { Markable table.n (rows_of table) (length buffer.old) × GivesOrder (rows_of table) (F.pre number_at) (F.post number_at) }
+    ensures { buffer.new ≡ marked table.entry.n (rows_of table.entry) buffer.old }
 {
-    let count = table.len() / n;
+    let count = table.row_count();
     if count == 0 {
         return;
     }
-    let mut k = count - 1;
-    let mut row = row_at(n, table, RowNumber(k));
-    let mut marks = marks_last(n);
-    buffer[k] = marks;
-    while 0 < k {
-        k -= 1;
-        let next = row;
-        row = row_at(n, table, RowNumber(k));
+    let last = number_at(count - 1);
+    let mut next = table.row_at(last);
+    let mut marks = marks_last(table.n);
+    buffer[last.0] = marks;
+    for k in (0..count - 1).rev() {
+        let number = number_at(k);
+        let row = table.row_at(number);
         marks = marks_by_next(row, next, marks);
-        buffer[k] = marks;
+        buffer[number.0] = marks;
+        next = row;
     }
 }
 
-// The marks of rows in any order, which are listed in order: in one pass from the last, each row's from those of the next listed.
-fn mark_listed(n: usize, table: &[u8], order: &[u16], buffer: &mut [u8])
-    requires { Markable n (rows n table.now) (length buffer.old) × (length (rows n table.now) ≤ length order.now)
-        × Listing (rows n table.now) order.now × Distinct (rows n table.now) }
-    ensures { buffer.new ≡ marked n (rows n table.now) buffer.old }
+// The marks of ascending rows.
+pub fn mark_ascending(table: FlatTable, buffer: &mut [u8])
+    requires { Markable table.n (rows_of table) (length buffer.old) × Ascending (rows_of table) }
+    ensures { buffer.new ≡ marked table.entry.n (rows_of table.entry) buffer.old }
 {
-    let count = table.len() / n;
-    if count == 0 {
-        return;
-    }
-    let mut k = count - 1;
-    let last = row_listed(order, k);
-    let last_place = last.0;
-    let mut row = row_at(n, table, last);
-    let mut marks = marks_last(n);
-    buffer[last_place] = marks;
-    while 0 < k {
-        k -= 1;
-        let next = row;
-        let number = row_listed(order, k);
-        let place = number.0;
-        row = row_at(n, table, number);
-        marks = marks_by_next(row, next, marks);
-        buffer[place] = marks;
-    }
+    mark_rows(table, RowNumber, buffer);
 }
 
-// The answer for ascending rows, which are not equal: 8 where they are more than the buffer's bytes, or their marks.
-fn marks_ascending(n: usize, table: &[u8], buffer: &mut [u8]) -> MarksAnswer
-    requires { (refusal (table_checks n table.now) ≡ 0) × Ascending (rows n table.now) }
-    ensures { MarksPromise n table.now buffer.old result buffer.new }
+// The answer for rows that `number_at` gives in ascending order, so that no two are equal: 8 where they are more than the buffer's bytes, or their marks.
+fn marks_in_order<F: Fn(usize) -> RowNumber>(
+    table: FlatTable,
+    number_at: F,
+    buffer: &mut [u8],
+) -> Result<(), Refusal>
+    requires { TableAccepted table.n table.bytes.now × GivesOrder (rows_of table) (F.pre number_at) (F.post number_at) }
+    ensures { MarksPromise table.entry.n table.entry.bytes.now buffer.old result buffer.new }
 {
-    if buffer.len() < table.len() / n {
-        return MarksAnswer::Refused(8);
+    if buffer.len() < table.row_count() {
+        return Err(Refusal::Room);
     }
-    mark_ascending(n, table, buffer);
-    MarksAnswer::Done
+    mark_rows(table, number_at, buffer);
+    Ok(())
 }
 
 // The answer for rows in any order: they are listed in order, and then 12, 8, or their marks.
-fn marks_unordered(n: usize, table: &[u8], buffer: &mut [u8]) -> MarksAnswer
-    requires { refusal (table_checks n table.now) ≡ 0 }
-    ensures { MarksPromise n table.now buffer.old result buffer.new }
+fn marks_unordered(table: FlatTable, buffer: &mut [u8]) -> Result<(), Refusal>
+    requires { TableAccepted table.n table.bytes.now }
+    ensures { MarksPromise table.entry.n table.entry.bytes.now buffer.old result buffer.new }
 {
     let mut order = [0u16; MOST_ROWS];
     let mut other = [0u16; MOST_ROWS];
-    list_rows(n, table, &mut order, &mut other);
-    if has_equal_neighbours(n, table, &order) {
-        return MarksAnswer::Refused(12);
+    list_rows(table, &mut order, &mut other);
+    if has_equal_neighbours(table, &order) {
+        return Err(Refusal::EqualRows);
     }
-    let room = buffer.len();
-    if room < table.len() / n {
-        return MarksAnswer::Refused(8);
-    }
-    mark_listed(n, table, &order, buffer);
-    MarksAnswer::Done
+    marks_in_order(table, |k| row_listed(&order, k), buffer)
 }
 
 // The marks of each row, one byte for a row, at the front of the buffer; the bytes behind stay (rule 2).
-pub fn marks(n: usize, table: &[u8], buffer: &mut [u8]) -> MarksAnswer
-    ensures { MarksPromise n table.now buffer.old result buffer.new }
+pub fn marks(table: FlatTable, buffer: &mut [u8]) -> Result<(), Refusal>
+    ensures { MarksPromise table.entry.n table.entry.bytes.now buffer.old result buffer.new }
 {
-    let number = table_refusal(n, table);
-    if number != 0 {
-        return MarksAnswer::Refused(number);
+    table.check()?;
+    if table.ascends() {
+        return marks_in_order(table, RowNumber, buffer);
     }
-    if ascends(n, table) {
-        return marks_ascending(n, table, buffer);
-    }
-    marks_unordered(n, table, buffer)
+    marks_unordered(table, buffer)
 }

@@ -15,16 +15,17 @@ pub fn marks_last(n: usize) -> u8
 }
 
 // The marks of a row from those of the next in the order of rows: where they first differ there is none, behind that all, before it the next row's.
-// A row that precedes another differs from it, so the loop ends before the exponents do.
+// A row that precedes another differs from it, so there is such a place.
 pub fn marks_by_next(row: Row, next: Row, marks: u8) -> u8
     requires { (row.n ≤ 6) × (next.n ≡ row.n) × Precedes (monomial_of row) (monomial_of next) }
     ensures { NextMarks row.n (monomial_of row) (monomial_of next) marks result }
 {
-    let mut power: u8 = 1;
-    let mut i = 0;
-    while row.exponents[i] == next.exponents[i] {
-        power *= 2;
-        i += 1;
-    }
+    let first = row
+        .exponents
+        .iter()
+        .zip(&next.exponents)
+        .position(|(a, b)| a != b)
+        .unwrap();
+    let power = 1u8 << first;
     (marks & (power - 1)) + (marks_last(row.n) + 1 - 2 * power)
 }

@@ -2,11 +2,6 @@
 // n and the row count are 0, and no byte is shown.
 #![tactic(auto)]
 
-// A byte as a number to print.
-fn wide(byte: u8) -> u64 {
-    byte as u64
-}
-
 // Prints a space and a number.
 fn print_field(number: u64) {
     io::write_all(1, b" ");
@@ -15,26 +10,26 @@ fn print_field(number: u64) {
 
 // Prints each byte behind a space.
 fn print_bytes(bytes: &[u8]) {
-    let mut i = 0;
-    while i < bytes.len() {
-        print_field(wide(bytes[i]));
-        i += 1;
+    for byte in bytes {
+        print_field(u64::from(*byte));
     }
 }
 
 // Prints one line: the three numbers, then each byte, parted by one space.
 fn print_line(refusal: u8, n: usize, rows: usize, bytes: &[u8]) {
-    io::print_decimal(1, wide(refusal));
+    io::print_decimal(1, u64::from(refusal));
     print_field(n as u64);
     print_field(rows as u64);
     print_bytes(bytes);
     io::write_all(1, b"\n");
 }
 
-// Opens table j of a bundle and prints its line. No other function has a struct that holds a slice.
+// Opens table j of a bundle and prints its line.
 fn show(bundle: &[u8], j: usize) {
-    let table = bundle::open_table(bundle, j);
-    print_line(table.refusal, table.n, table.rows, table.bytes)
+    match bundle::open_table(bundle, j) {
+        Ok(table) => print_line(0, table.n, table.rows, table.bytes),
+        Err(refusal) => print_line(refusal.number(), 0, 0, &[]),
+    }
 }
 
 // The paper's ten bytes: two variables, one table of two rows.

@@ -15,7 +15,8 @@ use Rattle.checks.proofs.TestLaws.{false_tests, tests_false}
 use Rattle.terms.specs.Monomials.{Table, OfSize, Distinct}
 use Rattle.terms.specs.TableChecks.{EntryAbove50, tests_entry_above50}
 use Rattle.terms.proofs.RowsLaws.{rows_size}
-use Rattle.bundle.specs.Format.{variables_of, table_count, header_length, body_of, table_of, tables_from, tables_of, Bytes, counts_of, bodies_of, bundle_of, place_of}
+use Rattle.bundle.specs.Format.{variables_of, table_count, header_length, body_of, table_of, tables_from, tables_of}
+use Rattle.bundle.specs.Format.{Bytes, counts_of, bodies_of, bundle_of, place_of}
 use Rattle.bundle.specs.Checks.{bundle_checks, LargeEntry, tests_large_entry}
 use Rattle.bundle.proofs.AcceptedLaws.{Laid, Accepted, accepted_bundle, entries_here, length_table}
 use Rattle.bundle.proofs.BytesLaws.{length_tables_from, read_bodies, bundle_again}

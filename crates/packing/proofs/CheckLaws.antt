@@ -1,11 +1,11 @@
 -- Laws of the writer's checks.
 --
 --   Shaped, shaped, shaped_accepts, accepts_shape   what is known of inputs that pass 1, 9, 2 and 3, and that this is enough to pass them
---   demanded_fits          the bytes that the sum of the counts demands, before any count is known to be small
 --   shaped_size            their bytes are at most 16 times 4,096 rows of 6
 --   shape_one, shape_nine, shape_two, shape_three, shape_passes   the first of these checks that refuses, and that none does
 --   write_four, write_twelve, write_eight, write_passes   what 4, 12 and 8 decide behind them. The size that the code adds up is the bundle's length
 --   Writable, writable, writable_passes   what is known of inputs that the writer accepts, and that this is enough
+--   accepted_six, accepted_sixteen, accepted_fits, accepted_short   of these the facts that the writer needs, one by one
 use mathlib.Core.Path.{◌≡◌, refl, sym, ◌∙◌}
 use mathlib.Core.Bool.{true, false}
 use mathlib.Core.List.{List, [], ◌∷◌, Memᴰ}
@@ -49,10 +49,6 @@ shaped_size {n} {counts} s =
     let t : total_rows counts ≤ 16 * 4096 = omega (arith, total_most counts s.limited, s.sixteen) in
     let m : total_rows counts * n ≤ 16 * 4096 * 6 = mul-le-mul t s.six in
     omega (arith, s.whole)
-
--- at most 1,048,560 rows of at most 6 bytes
-pub demanded_fits : (rows n : ℕ) → rows ≤ 16 * 65535 → n ≤ 6 → rows * n ≤ 16 * 65535 * 6
-demanded_fits rows n h g = mul-le-mul h g
 
 module _ (n : ℕ) (counts tables : List ℕ) where
   pub shaped_accepts : Accepts (shape_checks n counts tables) → Shaped n counts tables
@@ -173,6 +169,28 @@ writable n counts tables room e =
       fits = stable (tests_le size room) (λ g. accepts_head _ _ from8 (inl (omega (arith, g))));
       short = stable (tests_le size 65535) (λ g. accepts_head _ _ from8 (inr (omega (arith, g))));
     }
+
+-- the facts that the writer needs, one by one
+module _ (n : ℕ) (counts tables : List ℕ) (room : ℕ) (e : refusal (write_checks n counts tables room) ≡ 0) where
+  accepted_shape : Shaped n counts tables
+  accepted_shape = (writable n counts tables room e).shape
+
+  accepted_size : length (given_bundle n counts tables) ≡ 2 + 4 * length counts + length tables
+  accepted_size = length_given_bundle n counts tables accepted_shape.whole
+
+  pub accepted_six : n ≤ 6
+  accepted_six = accepted_shape.six
+
+  pub accepted_sixteen : length counts ≤ 16
+  accepted_sixteen = accepted_shape.sixteen
+
+  pub accepted_fits : 2 + 4 * length counts + length tables ≤ room
+  accepted_fits = omega (arith, accepted_size, (writable n counts tables room e).fits)
+
+  pub accepted_short : 2 + 4 * length counts + length tables ≤ 65535
+  accepted_short = omega (arith, accepted_size, (writable n counts tables room e).short)
+
+pub ruleset accepting = (accepted_six, accepted_sixteen, accepted_fits, accepted_short)
 
 pub writable_passes : (n : ℕ) (counts tables : List ℕ) (room : ℕ) → Writable n counts tables room → refusal (write_checks n counts tables room) ≡ 0
 writable_passes n counts tables room w =

@@ -1,19 +1,21 @@
 -- The writer by example: the paper's ten bytes, and for each refusal inputs that meet it, also where a later check would refuse too.
-use mathlib.Core.Path.{◌≡◌, refl, ap, ap₂, ◌∙◌}
+use mathlib.Core.Path.{◌≡◌, refl, ap, ◌∙◌}
 use mathlib.Core.List.{List, [], ◌∷◌}
 use Prim.Native.Nat.{ℕ, ◌≤◌}
 use native.Mathlib.Omega.{arith}
 use lib.ListN.{length, drop, replicate, drop_of_length-le}
 use Rattle.terms.specs.Rows.{first_rows, flat}
+use Rattle.std.specs.Prelude.{Result, Ok, Err}
+use Rattle.checks.specs.declared.Refusal.{Refusal}
+use Rattle.checks.specs.declared.Refusal.TheVariants.{Room}
 use Rattle.checks.specs.Refusals.{refusal, answered}
+use Rattle.checks.proofs.OutcomeLaws.{same_outcome}
 use Rattle.checks.proofs.RefusalLaws.{answered_accepted}
 use Rattle.terms.specs.ExampleTables.{bytes_d, bundle_d, bytes_e}
 use Rattle.distinct.specs.EqualRows.{same_test, equal_rows_test}
 use Rattle.bundle.specs.Format.{counts_of, entries_of, bodies_of, bundle_of}
 use Rattle.packing.specs.GivenTables.{total_rows, given_tables, given_bundle}
-use Rattle.packing.specs.Operation.{write_checks, write_answer, written_buffer, WritePromise}
-use Rattle.packing.specs.declared.WriteAnswer.{WriteAnswer}
-use Rattle.packing.specs.declared.WriteAnswer.TheVariants.{Length, Refused}
+use Rattle.packing.specs.Operation.{write_checks, written_buffer, WritePromise}
 
 listing_packed : given_bundle 2 (2 ∷ []) bytes_d ≡ bundle_d
 unfolding bundle_of counts_of entries_of bodies_of given_tables first_rows flat
@@ -99,20 +101,20 @@ nine : (number_d 9 ≡ 8) × (length_d 9 ≡ 0)
 unfolding answered total_rows bundle_of counts_of entries_of bodies_of given_tables first_rows flat equal_rows_test same_test
 nine = (refl, refl)
 
-pub example_d_written : (buffer : List ℕ) {answer : WriteAnswer} {after : List ℕ} → length buffer ≡ 10 → WritePromise 2 (2 ∷ []) bytes_d buffer answer after
-    → (answer ≡ Length 10) × (after ≡ bundle_d)
-example_d_written buffer e p =
+pub example_d_written : (buffer : List ℕ) {answer : Result ℕ Refusal} {after : List ℕ} → length buffer ≡ 10
+    → WritePromise 2 (2 ∷ []) bytes_d buffer answer after → (answer ≡ Ok 10) × (after ≡ bundle_d)
+example_d_written buffer {answer} e p =
     let z : number_d (length buffer) ≡ 0 = ap number_d e ∙ ten.0 in
     let l : length buffer ≤ 10 = omega arith in
     let behind : drop 10 buffer ≡ [] = drop_of_length-le buffer l in (
-      p.settled ∙ ap₂ write_answer (p.number ∙ z) (p.size ∙ ap length_d e ∙ ten.1),
+      same_outcome 0 answer (Ok 10) (p.number ∙ z) (p.size ∙ ap length_d e ∙ ten.1),
       p.writes ∙ answered_accepted (write_checks 2 (2 ∷ []) bytes_d (length buffer)) (written_buffer 2 (2 ∷ []) bytes_d buffer) buffer z
           ∙ rw (listing_packed, behind),
     )
 
-pub example_d_short : (buffer : List ℕ) {answer : WriteAnswer} {after : List ℕ} → length buffer ≡ 9 → WritePromise 2 (2 ∷ []) bytes_d buffer answer after
-    → answer ≡ Refused 8
-example_d_short buffer e p = p.settled ∙ ap₂ write_answer (p.number ∙ ap number_d e ∙ nine.0) (p.size ∙ ap length_d e ∙ nine.1)
+pub example_d_short : (buffer : List ℕ) {answer : Result ℕ Refusal} {after : List ℕ} → length buffer ≡ 9
+    → WritePromise 2 (2 ∷ []) bytes_d buffer answer after → answer ≡ Err Room
+example_d_short buffer {answer} e p = same_outcome 0 answer (Err Room) (p.number ∙ ap number_d e ∙ nine.0) (p.size ∙ ap length_d e ∙ nine.1)
 
 -- E's rows: 12 whatever the room
 pub example_e : (room : ℕ) → refusal (write_checks 2 (2 ∷ []) bytes_e room) ≡ 12

@@ -1,22 +1,23 @@
 -- What the writer's loops have done so far, and the whole bundle from its parts.
 --
---   large_here, large_later   a search for a count above 4,096: it ends here, or goes on behind
+--   any_listed             what the library's `any` asks of a list
+--   total_sum, total_bound   the library's sum of the row counts is that of the tables given. Each count is below 65,536, so the sum is bounded
 --   total_next             the rows from table j on
---   Summed, summed_none, summed_more, summed_all   the sum of the first j counts. Each is below 65,536, so the sum is bounded
---   body_fits              the bytes of a table whose row count is a 16-bit number
+--   bytes_low_high         the library's two bytes of a 16-bit number
 --   Entered, entered_none, entered_more, entered_all   the entries of the first j tables are written, and the next body's place is known
 --   bundle_written         n, the number of tables, the entries and the bodies, one behind the other, are the bundle at the buffer's front
 use mathlib.Core.Path.{◌≡◌, refl, sym, ap, ◌∙◌}
-use mathlib.Core.Bool.{true}
+use mathlib.Core.Bool.{Bool, ◌||◌}
 use mathlib.Core.List.{List, [], ◌∷◌, ◌++◌, append-nil, append_assoc}
-use Prim.Native.Nat.{ℕ, ◌+◌, ◌*◌, ◌≤◌, ◌<◌}
-use native.Mathlib.Nat.{add-mul, zero-add, mul-le-mul, le_of_suc-le-suc}
+use Prim.Native.Nat.{ℕ, suc, ◌+◌, ◌*◌, ◌/◌, ◌%◌, ◌≤◌, ◌<◌}
+use native.Mathlib.Nat.{add-mul, zero-add, mod-eq_of_lt}
 use native.Mathlib.Numerals.{add-one}
 use native.Mathlib.Omega.{arith}
-use borrow.Author.Tests.{le-ltb, lt-ltb}
-use lib.Dec.{ltb}
 use lib.ListN.{length, get_or, drop, drop_of_length-le}
 use lib.Seq.{drop-cons}
+use Rattle.std.specs.Int.{w16, to_le_bytes}
+use Rattle.std.specs.List.{list_any, sum}
+use Rattle.std.proofs.lemmas.List.Recursion.{is_sum_by}
 use Rattle.checks.specs.Tests.{any}
 use Rattle.writing.specs.Written.{written, Wrote}
 use Rattle.writing.proofs.WrittenLaws.{wrote_nothing, wrote_then, wrote_as}
@@ -25,48 +26,34 @@ use Rattle.packing.specs.GivenTables.{total_rows, given_bundle}
 use Rattle.packing.specs.Operation.{written_buffer}
 use Rattle.packing.proofs.GivenLaws.{bundle_bytes}
 
--- ---- a large count
+-- ---- chains over the counts
 
-pub large_here : (counts : List ℕ) (j : ℕ) → j < length counts → 4096 < get_or counts j 0 → any (λ c. ltb 4096 c) (drop j counts) ≡ true
-large_here counts j h l = rw (drop-cons counts j 0 h, lt-ltb _ _ l)
+-- what the library's `any` computes
+pub any_listed : (f : ℕ → Bool) (l : List ℕ) → list_any f l ≡ any f l
+any_listed f [] = refl
+any_listed f (x ∷ l) = ap (λ (b : Bool). f x || b) (any_listed f l)
 
-pub large_later : (counts : List ℕ) (j : ℕ) → j < length counts → get_or counts j 0 ≤ 4096
-    → any (λ c. ltb 4096 c) (drop j counts) ≡ any (λ c. ltb 4096 c) (drop (j + 1) counts)
-large_later counts j h l = rw (add-one, drop-cons counts j 0 h, le-ltb _ _ l)
+pub total_sum : (counts : List ℕ) → sum counts ≡ total_rows counts
+unfolding total_rows
+total_sum counts = sym (is_sum_by total_rows (λ x. x) refl (λ x l. refl) counts)
 
--- ---- the sum
+pub total_bound : (counts : List ℕ) → ((j : ℕ) → get_or counts j 0 < 65536) → total_rows counts ≤ length counts * 65535
+unfolding total_rows
+total_bound [] f = omega arith
+total_bound (c ∷ counts) f = omega (arith, f 0, total_bound counts (λ j. f (suc j)))
+
+-- ---- the rows from a table on
 
 pub total_next : (counts : List ℕ) (j : ℕ) → j < length counts → total_rows (drop j counts) ≡ get_or counts j 0 + total_rows (drop (j + 1) counts)
 unfolding total_rows
 total_next counts j h = rw (add-one, drop-cons counts j 0 h)
 
-total_end : (counts : List ℕ) (j : ℕ) → length counts ≤ j → total_rows (drop j counts) ≡ 0
-unfolding total_rows
-total_end counts j h = ap total_rows (drop_of_length-le counts h)
-
-pub record Summed (counts : List ℕ) (sum j : ℕ) : Type 0 where
-  pub passed : j ≤ length counts
-  pub rest : sum + total_rows (drop j counts) ≡ total_rows counts
-  pub bound : sum ≤ j * 65535
-
-pub summed_none : (counts : List ℕ) → Summed counts 0 0
-summed_none counts = record { passed = omega arith; rest = omega arith; bound = omega arith }
-
-pub summed_more : {counts : List ℕ} {sum j : ℕ} → Summed counts sum j → (c : ℕ) → j < length counts → c ≡ get_or counts j 0 → c < 65536
-    → Summed counts (sum + c) (j + 1)
-summed_more {counts} {sum} {j} s c h e l = record {
-  passed = omega arith;
-  rest = omega (arith, s.rest, total_next counts j h);
-  bound = omega (arith, s.bound);
-}
-
-pub summed_all : {counts : List ℕ} {sum j : ℕ} → Summed counts sum j → length counts ≤ j → sum ≡ total_rows counts
-summed_all {counts} {sum} {j} s h = omega (arith, s.rest, total_end counts j h)
-
 -- ---- the entries
 
-pub body_fits : {c n : ℕ} → c < 65536 → n ≤ 6 → c * n ≤ 65535 * 6
-body_fits h g = mul-le-mul (le_of_suc-le-suc h) g
+-- a 16-bit number as two bytes
+pub bytes_low_high : (value : ℕ) {bytes : List ℕ} → value < 65536 → bytes ≡ to_le_bytes w16 value
+    → get_or bytes 0 0 ∷ (get_or bytes 1 0 ∷ []) ≡ low value ∷ (high value ∷ [])
+bytes_low_high value h e = let top : value / 256 % 256 ≡ value / 256 = mod-eq_of_lt (omega arith) in rw e (ap (λ (x : ℕ). low value ∷ (x ∷ [])) top)
 
 -- What is written is `done`; done and the entries that are left are all entries.
 pub record Entered (n : ℕ) (counts before : List ℕ) (place at j : ℕ) (buffer : List ℕ) : Type 0 where

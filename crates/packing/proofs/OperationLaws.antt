@@ -5,27 +5,25 @@
 --   write_refuses          where one does: its number, and the buffer as it was
 --   write_size, write_written, write_front, write_behind   an accepted result: its length, the buffer, the bundle, the bytes behind it
 --   write_bound            a length is at most 65,535
---   write_positive         the number of a refusal is above 0
-use mathlib.Core.Path.{◌≡◌, refl, sym, ap₂, ◌∙◌}
+use mathlib.Core.Path.{◌≡◌, sym, ◌∙◌}
 use mathlib.Core.List.{List}
-use Prim.Native.Nat.{ℕ, zero, suc, ◌≤◌, ◌<◌}
+use Prim.Native.Nat.{ℕ, ◌≤◌}
 use native.Mathlib.Omega.{arith}
 use lib.ListN.{length, take, drop}
 use lib.Seq.{take_at, drop_at}
 use Rattle.checks.specs.Refusals.{Check, refusal}
-use Rattle.checks.proofs.RefusalLaws.{answered_accepted, answered_refused, numbered_refused}
+use Rattle.checks.specs.declared.Refusal.{Refusal}
+use Rattle.checks.specs.Outcomes.{number}
+use Rattle.checks.proofs.OutcomeLaws.{number_positive, same_outcome}
+use Rattle.checks.proofs.RefusalLaws.{answered_accepted, answered_refused}
+use Rattle.std.specs.Prelude.{Result, Ok, Err}
 use Rattle.packing.specs.GivenTables.{given_bundle}
-use Rattle.packing.specs.Operation.{write_checks, write_answer, written_buffer, WritePromise}
-use Rattle.packing.specs.declared.WriteAnswer.{WriteAnswer}
-use Rattle.packing.specs.declared.WriteAnswer.TheVariants.{Length, Refused}
+use Rattle.packing.specs.Operation.{write_checks, written_buffer, WritePromise}
 use Rattle.packing.proofs.CheckLaws.{writable}
 
-pub write_unique : {n : ℕ} {counts tables buffer : List ℕ} {r s : WriteAnswer} {x y : List ℕ} → WritePromise n counts tables buffer r x
+pub write_unique : {n : ℕ} {counts tables buffer : List ℕ} {r s : Result ℕ Refusal} {x y : List ℕ} → WritePromise n counts tables buffer r x
     → WritePromise n counts tables buffer s y → (r ≡ s) × (x ≡ y)
-write_unique p q = (
-  p.settled ∙ ap₂ write_answer (p.number ∙ sym q.number) (p.size ∙ sym q.size) ∙ sym q.settled,
-  p.writes ∙ sym q.writes,
-)
+write_unique {r = r} {s} p q = (same_outcome 0 r s (p.number ∙ sym q.number) (p.size ∙ sym q.size), p.writes ∙ sym q.writes)
 
 -- ---- accepted and refused
 
@@ -34,27 +32,25 @@ module _ (n : ℕ) (counts tables buffer : List ℕ) where
   checks = write_checks n counts tables (length buffer)
 
   pub write_accepts : (size : ℕ) (after : List ℕ) → refusal checks ≡ 0 → size ≡ length (given_bundle n counts tables)
-      → after ≡ written_buffer n counts tables buffer → WritePromise n counts tables buffer (Length size) after
+      → after ≡ written_buffer n counts tables buffer → WritePromise n counts tables buffer (Ok size) after
   write_accepts size after e l w = record {
     number = sym e;
     size = l ∙ sym (answered_accepted checks (length (given_bundle n counts tables)) 0 e);
-    settled = refl;
     writes = w ∙ sym (answered_accepted checks (written_buffer n counts tables buffer) buffer e);
   }
 
-  pub write_refuses : (m : ℕ) → m ≡ refusal checks → (m ≡ 0 → ⊥) → WritePromise n counts tables buffer (Refused m) buffer
-  write_refuses m e f =
-      let g : refusal checks ≡ 0 → ⊥ = λ z. f (e ∙ z) in
+  pub write_refuses : (e : Refusal) → number e ≡ refusal checks → WritePromise n counts tables buffer (Err e) buffer
+  write_refuses e m =
+      let f : refusal checks ≡ 0 → ⊥ = λ z. omega (arith, m, z, number_positive e) in
       record {
-        number = e;
-        size = sym (answered_refused checks (length (given_bundle n counts tables)) 0 g);
-        settled = sym (numbered_refused m Refused (Length 0) f);
-        writes = sym (answered_refused checks (written_buffer n counts tables buffer) buffer g);
+        number = m;
+        size = sym (answered_refused checks (length (given_bundle n counts tables)) 0 f);
+        writes = sym (answered_refused checks (written_buffer n counts tables buffer) buffer f);
       }
 
 -- ---- what stands in the buffer
 
-module _ {n : ℕ} {counts tables buffer : List ℕ} {k : ℕ} {after : List ℕ} (p : WritePromise n counts tables buffer (Length k) after) where
+module _ {n : ℕ} {counts tables buffer : List ℕ} {k : ℕ} {after : List ℕ} (p : WritePromise n counts tables buffer (Ok k) after) where
   pub write_size : k ≡ length (given_bundle n counts tables)
   write_size = p.size ∙ answered_accepted (checks n counts tables buffer) (length (given_bundle n counts tables)) 0 (sym p.number)
 
@@ -69,11 +65,3 @@ module _ {n : ℕ} {counts tables buffer : List ℕ} {k : ℕ} {after : List ℕ
 
   pub write_bound : k ≤ 65535
   write_bound = omega (arith, write_size, (writable n counts tables (length buffer) (sym p.number)).short)
-
--- a refusal's number is above 0
-pub write_positive : {n : ℕ} {counts tables buffer : List ℕ} {m : ℕ} {after : List ℕ} → WritePromise n counts tables buffer (Refused m) after → 0 < m
-write_positive {m = zero} p = absurd (never p.settled)
-  where
-    never : Refused 0 ≡ Length 0 → ⊥
-    never e = let z : ◌≡◌ {A = ℕ} 0 1 = cc in omega arith
-write_positive {m = suc m} p = omega arith

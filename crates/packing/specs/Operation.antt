@@ -8,24 +8,23 @@
 --   shape_checks n counts tables   the checks 1, 9, 2, 3, in order: of n, the counts and the tables' length
 --   content_checks n counts tables room  the checks 4, 12 and 8: of the entries, the rows and the bundle's length
 --   write_checks n counts tables room  the checks in order: 1, 9, 2, 3, 4, 12, 8. The room is the length of the lent buffer
---   write_number, write_length     the paper's number of an answer, 0 for none, and the bundle's length, 0 beside a refusal
---   write_answer m k               the answer of that number and length: the length, or the refusal
+--   write_length answer            of an answer: the bundle's length, and beside a refusal 0
 --   written_buffer n counts tables buffer  the buffer with the bundle at its front; the bytes behind it stay
 --   WritePromise n counts tables buffer answer after   the promise: the number is that of the first check that refuses, the length that of the
---                                  bundle, the answer the one of both, and the buffer has the bundle, or on refusal is as it was
+--                                  bundle, and the buffer has the bundle, or on refusal is as it was
 --   EntriesFit n counts buffer     the header fits the buffer, and each place that stands in it is a 16-bit number
-use Rattle.std.specs.Prelude.{◌≡◌, not, ◌&&◌, ◌||◌, ◌⊎◌, ℕ, ◌+◌, ◌*◌, ◌≤◌, ◌<◌, leb, ltb, eqb, length, drop}
+use Rattle.std.specs.Prelude.{◌≡◌, not, ◌&&◌, ◌||◌, ◌⊎◌, ℕ, ◌+◌, ◌*◌, ◌≤◌, ◌<◌, leb, ltb, eqb, length, drop, Result}
 use mathlib.Core.List.{List, [], ◌∷◌, ◌++◌, Memᴰ}
 use Rattle.std.proofs.Common.{lit<}
 use Rattle.checks.specs.Tests.{Tests, any}
-use Rattle.checks.specs.Refusals.{Check, refusal, check, answered, numbered}
+use Rattle.checks.specs.declared.Refusal.{Refusal}
+use Rattle.checks.specs.Outcomes.{number_of, value_or}
+use Rattle.checks.specs.Refusals.{Check, refusal, check, answered}
 use Rattle.checks.proofs.TestLaws.{tests_le, tests_lt, tests_eq, tests_and, tests_or, tests_not, tests_any}
 use Rattle.terms.specs.TableChecks.{tests_not_one_to_six, tests_entry_above50}
 use Rattle.terms.specs.Monomials.{Table, EqualRows}
 use Rattle.distinct.specs.EqualRows.{equal_rows_test, tests_equal_rows}
 use Rattle.packing.specs.GivenTables.{total_rows, given_tables, given_bundle}
-use Rattle.packing.specs.declared.WriteAnswer.{WriteAnswer}
-use Rattle.packing.specs.declared.WriteAnswer.TheVariants.{Length, Refused}
 
 -- ---- the conditions
 
@@ -81,24 +80,15 @@ write_checks n counts tables room = shape_checks n counts tables ++ content_chec
 
 -- ---- the answer and the buffer
 
-abbrev pub write_number : WriteAnswer → ℕ
-write_number (Length k) = 0
-write_number (Refused m) = m
-
-abbrev pub write_length : WriteAnswer → ℕ
-write_length (Length k) = k
-write_length (Refused m) = 0
-
-abbrev pub write_answer : ℕ → ℕ → WriteAnswer
-write_answer m k = numbered m Refused (Length k)
+abbrev pub write_length : Result ℕ Refusal → ℕ
+write_length answer = value_or 0 answer
 
 abbrev pub written_buffer : ℕ → List ℕ → List ℕ → List ℕ → List ℕ
 written_buffer n counts tables buffer = given_bundle n counts tables ++ drop (length (given_bundle n counts tables)) buffer
 
-pub record WritePromise (n : ℕ) (counts tables buffer : List ℕ) (answer : WriteAnswer) (after : List ℕ) : Type 0 where
-  pub number : write_number answer ≡ refusal (write_checks n counts tables (length buffer))
+pub record WritePromise (n : ℕ) (counts tables buffer : List ℕ) (answer : Result ℕ Refusal) (after : List ℕ) : Type 0 where
+  pub number : number_of answer ≡ refusal (write_checks n counts tables (length buffer))
   pub size : write_length answer ≡ answered (write_checks n counts tables (length buffer)) (length (given_bundle n counts tables)) 0
-  pub settled : answer ≡ write_answer (write_number answer) (write_length answer)
   pub writes : after ≡ answered (write_checks n counts tables (length buffer)) (written_buffer n counts tables buffer) buffer
 
 -- ---- what the writer of the header asks

@@ -2,6 +2,11 @@
 --
 --   settled       a number that is the refusal of a list of checks settles the list
 --   demand_one, demand_two, demand_three
+use Rattle.std.specs.Prelude.{Result, Ok, Err, ⊤}
+use Rattle.checks.proofs.OutcomeLaws.{number_positive}
+use Rattle.checks.specs.Outcomes.{number_of}
+use Rattle.checks.specs.declared.Refusal.{Refusal}
+use Rattle.finding.specs.declared.Finding.{Finding}
 use mathlib.Core.Path.{◌≡◌, sym, ap, ◌∙◌, subst}
 use mathlib.Core.List.{List, [], ◌∷◌, ◌++◌}
 use mathlib.Core.Logic.{by_cases, ◌↔◌}
@@ -23,32 +28,27 @@ use Rattle.checks.proofs.RefusalLaws.{accepted, accepts_nil, accepts_cons, accep
 use Rattle.checks.proofs.RefusalLaws.{answered_accepted, answered_refused}
 use Rattle.terms.proofs.TableLaws.{accepts_table, rows_small}
 use Rattle.division.specs.Janet.{Multiplicative, Complete, marks_of, table_marks}
-use Rattle.finding.specs.Operation.{FindPromise, find_checks, find_number, find_row, find_steps}
+use Rattle.finding.specs.Operation.{FindPromise, find_checks, find_row, find_steps}
 use Rattle.division.specs.Checks.{length_check, order_check}
 use Rattle.finding.proofs.OperationLaws.{find_finds, find_steps_lem, find_ready}
 use Rattle.completion.specs.Completed.{CompletedTable}
-use Rattle.completing.specs.Operation.{CompletePromise, complete_checks, complete_number, complete_rows, completed_of, room_for}
-use Rattle.completing.specs.declared.CompleteAnswer.{CompleteAnswer}
-use Rattle.completing.specs.declared.CompleteAnswer.TheVariants.{Rows, Refused}
+use Rattle.completing.specs.Operation.{CompletePromise, complete_checks, complete_rows, completed_of, room_for}
 use Rattle.completion.proofs.RuleFive.{completed_table, completed_unique, completed_most}
 use Rattle.completion.proofs.SmallestTable.{completion_ideal, completion_complete, completion_one, completion_none, completion_size, completed_contained}
-use Rattle.completing.proofs.OperationLaws.{complete_rows_lem, complete_front, complete_behind, complete_positive, room_enough, no_room, accepted_room}
+use Rattle.completing.proofs.OperationLaws.{complete_rows_lem, complete_front, complete_behind, room_enough, no_room, accepted_room}
 use Rattle.completing.proofs.OperationLaws.{room_limited}
 use Rattle.counts.specs.Counts.{CountsOutside, count_at}
 use Rattle.counts.proofs.CountLaws.{count_outside}
 use Rattle.division.proofs.Cover.{inside_divisor}
-use Rattle.counting.specs.Operations.{CountPromise, degree_check, complete_check, countable_checks, count_checks, count_number, count_value}
-use Rattle.counting.specs.declared.CountAnswer.{CountAnswer}
+use Rattle.counting.specs.Operations.{CountPromise, degree_check, complete_check, countable_checks, count_checks, count_value}
 use Rattle.terms.specs.Ideal.{Inside}
 use Rattle.division.specs.Cones.{DivisorAt}
 use Rattle.division.specs.Scan.{scan, Answers}
-use Rattle.finding.specs.declared.FindAnswer.{FindAnswer}
 use Rattle.terms.proofs.OrderLaws.{ascending_distinct}
 use Rattle.division.proofs.JanetLaws.{janet_disjoint}
 use Rattle.division.proofs.DescentLaws.{scan_finds, answers_first, answers_unique}
 use Rattle.checks.proofs.TestLaws.{tests_eq}
-use Rattle.marking.specs.Operation.{MarksPromise, marks_number}
-use Rattle.marking.specs.declared.MarksAnswer.{MarksAnswer}
+use Rattle.marking.specs.Operation.{MarksPromise}
 use Rattle.division.proofs.MarkByteLaws.{tests_marks, front_marks, length_table_marks, marks_of_below}
 use lib.Seq.{drop_at}
 use Rattle.bundle.specs.Checks.{open_checks}
@@ -74,22 +74,22 @@ demand_one = record {
   marks = λ n table buffer answer after p. (settled _ _ p.number, λ l. p.writes ∙ beside _ _ p.number l _ buffer);
   inside = λ n table query answer p. settled _ _ p.number;
   complete = λ n table buffer answer after p.
-      (settled (complete_checks n table (length buffer)) (complete_number answer) p.number, λ l. p.writes ∙ beside _ _ p.number l _ buffer);
-  find = λ n table query answer p. settled (find_checks n table query) (find_number answer) p.number;
+      (settled (complete_checks n table (length buffer)) (number_of answer) p.number, λ l. p.writes ∙ beside _ _ p.number l _ buffer);
+  find = λ n table query answer p. settled (find_checks n table query) (number_of answer) p.number;
   count = λ n table s answer p. settled _ _ p.number;
   polynomial = λ n table s answer p. settled _ _ p.number;
   steady = λ n table answer p. settled _ _ p.number;
   locate = λ bundle j answer p. (
     settled _ _ p.number,
     λ l.
-        let none = beside (open_checks bundle j) answer.refusal p.number l in
+        let none = beside (open_checks bundle j) (number_of answer) p.number l in
         (p.variables ∙ none _ 0, p.count ∙ none _ 0, p.begins ∙ none _ 0),
   );
   opened = λ bundle j answer p. (
     settled _ _ p.number,
     λ l.
-        let none = beside (open_checks bundle.now j) answer.refusal p.number l in
-        (p.variables ∙ none _ 0, p.count ∙ none _ 0, p.shown ∙ beside (open_checks bundle.now j) answer.refusal p.number l _ []),
+        let none = beside (open_checks bundle.now j) (number_of answer) p.number l in
+        (p.variables ∙ none _ 0, p.count ∙ none _ 0, p.shown ∙ beside (open_checks bundle.now j) (number_of answer) p.number l _ []),
   );
   write = λ n counts tables buffer answer after p. (settled _ _ p.number, λ l. p.writes ∙ beside _ _ p.number l _ buffer);
 }
@@ -97,12 +97,12 @@ demand_one = record {
 -- ---- the second demand
 
 -- an accepted answer is a row count
-accepted_promise : (n : ℕ) (table buffer : List ℕ) (answer : CompleteAnswer) (after : List ℕ) → CompletePromise n table buffer answer after
-    → complete_number answer ≡ 0 → CompletePromise n table buffer (Rows (complete_rows answer)) after
-accepted_promise n table buffer (Rows k) after p e = p
-accepted_promise n table buffer (Refused m) after p e = absurd (omega (arith, complete_positive p))
+accepted_promise : (n : ℕ) (table buffer : List ℕ) (answer : Result ℕ Refusal) (after : List ℕ) → CompletePromise n table buffer answer after
+    → number_of answer ≡ 0 → CompletePromise n table buffer (Ok (complete_rows answer)) after
+accepted_promise n table buffer (Ok k) after p e = p
+accepted_promise n table buffer (Err x) after p e = absurd (omega (arith, e, number_positive x))
 
-completion_of : (n : ℕ) (table buffer : List ℕ) (k : ℕ) (after : List ℕ) → CompletePromise n table buffer (Rows k) after → Completion n table buffer k after
+completion_of : (n : ℕ) (table buffer : List ℕ) (k : ℕ) (after : List ℕ) → CompletePromise n table buffer (Ok k) after → Completion n table buffer k after
 completion_of n table buffer k after p = record {
   rule = complete_rows_lem p;
   complete = completion_complete n (rows n table) (rows_size n table) (complete_rows_lem p);
@@ -111,8 +111,8 @@ completion_of n table buffer k after p = record {
   behind = complete_behind p;
 }
 
-room_decides : (n : ℕ) (table buffer : List ℕ) (answer : CompleteAnswer) (after : List ℕ) → CompletePromise n table buffer answer after
-    → Accepts (distinct_checks n table) → (H : Table) → CompletedTable n (rows n table) H → (complete_number answer ≡ 8) ↔ (room_for n (length buffer) < length H)
+room_decides : (n : ℕ) (table buffer : List ℕ) (answer : Result ℕ Refusal) (after : List ℕ) → CompletePromise n table buffer answer after
+    → Accepts (distinct_checks n table) → (H : Table) → CompletedTable n (rows n table) H → (number_of answer ≡ 8) ↔ (room_for n (length buffer) < length H)
 room_decides n table buffer answer after p a H is =
     let same : completed_of n table ≡ H = completed_unique (completed_table n (rows n table) (rows_size n table)) is in
     let size = ap length same in (
@@ -122,8 +122,8 @@ room_decides n table buffer answer after p a H is =
     )
 
 -- the byte of row r is the row's marks, and its bits say where it is multiplicative
-marking_of : (n : ℕ) (table buffer : List ℕ) (answer : MarksAnswer) (after : List ℕ) → MarksPromise n table buffer answer after
-    → marks_number answer ≡ 0 → MarksWritten n table buffer after
+marking_of : (n : ℕ) (table buffer : List ℕ) (answer : Result ⊤ Refusal) (after : List ℕ) → MarksPromise n table buffer answer after
+    → number_of answer ≡ 0 → MarksWritten n table buffer after
 marking_of n table buffer answer after p e = record {
   marks = λ r j l h.
       let t = tests_marks n G (row_at G r) j h in (
@@ -157,7 +157,7 @@ demand_two = record {
 -- ---- the third demand
 
 -- two divisors of one monomial are one row, since the cones of an ascending table are disjoint
-found_divides : (n : ℕ) (table query : List ℕ) (answer : FindAnswer) → FindPromise n table query answer → find_number answer ≡ 0
+found_divides : (n : ℕ) (table query : List ℕ) (answer : Result Finding Refusal) → FindPromise n table query answer → number_of answer ≡ 0
     → (r : ℕ) → (find_row answer ≡ some r) ↔ DivisorAt Multiplicative (rows n table) r query
 found_divides n table query answer p e r =
     let z : refusal (find_checks n table query) ≡ 0 = sym p.number ∙ e in
@@ -168,7 +168,7 @@ found_divides n table query answer p e r =
           (some r) found d,
     )
 
-module _ (n : ℕ) (table buffer : List ℕ) (k : ℕ) (after : List ℕ) (p : CompletePromise n table buffer (Rows k) after) where
+module _ (n : ℕ) (table buffer : List ℕ) (k : ℕ) (after : List ℕ) (p : CompletePromise n table buffer (Ok k) after) where
   one_divisor : (q : Monomial) → length q ≡ n → ((i : ℕ) → q ! i ≤ 255) → Inside (rows n table) q → (r : ℕ) × OneDivisor (first_rows n k after) q r
   one_divisor q e small h =
       let d = completion_one n (rows n table) (rows_size n table) (complete_rows_lem p) q e h in
@@ -211,8 +211,8 @@ module _ (n : ℕ) (table buffer : List ℕ) (k : ℕ) (after : List ℕ) (p : C
       (accepts_cons (complete_check n (flat H)) _ (λ h. h (subst (Complete n) same_rows (completion_complete n (rows n table) (rows_size n table) is)))
       accepts_nil)))
 
-  count_answers : (s : ℕ) → s ≤ 300 → (answer : CountAnswer) → CountPromise n (flat H) s answer
-      → (count_number answer ≡ 0) × CountsOutside n (rows n table) s (count_value answer)
+  count_answers : (s : ℕ) → s ≤ 300 → (answer : Result ℕ Refusal) → CountPromise n (flat H) s answer
+      → (number_of answer ≡ 0) × CountsOutside n (rows n table) s (count_value answer)
   count_answers s l answer c =
       let z : refusal (count_checks n (flat H) s) ≡ 0 = accepts_refusal (count_checks n (flat H) s) (counted s l) in
       let value : count_at n H s ≡ count_value answer = sym (c.value ∙ answered_accepted _ _ 0 z ∙ ap (λ (G : Table). count_at n G s) (sym same_rows)) in (
@@ -222,10 +222,10 @@ module _ (n : ℕ) (table buffer : List ℕ) (k : ℕ) (after : List ℕ) (p : C
       )
 
   -- they pass every check of find for a query of n bytes, and a row is found exactly for the monomials of the ideal
-  find_answers : (query : List ℕ) → length query ≡ n → (answer : FindAnswer) → FindPromise n (flat H) query answer
-      → (find_number answer ≡ 0) × (((r : ℕ) × (find_row answer ≡ some r)) ↔ Inside (rows n table) query)
+  find_answers : (query : List ℕ) → length query ≡ n → (answer : Result Finding Refusal) → FindPromise n (flat H) query answer
+      → (number_of answer ≡ 0) × (((r : ℕ) × (find_row answer ≡ some r)) ↔ Inside (rows n table) query)
   find_answers query e answer f =
-      let z : find_number answer ≡ 0 = f.number ∙ accepts_refusal (find_checks n (flat H) query)
+      let z : number_of answer ≡ 0 = f.number ∙ accepts_refusal (find_checks n (flat H) query)
       (accepts_append (table_checks n (flat H)) (length_check n query ∷ (order_check n (flat H) ∷ [])) bytes_accepted
       (accepts_cons (length_check n query) _ (λ h. h e)
       (accepts_cons (order_check n (flat H)) _ (λ h. h (subst Ascending same_rows is.ascends)) accepts_nil))) in
@@ -240,7 +240,7 @@ module _ (n : ℕ) (table buffer : List ℕ) (k : ℕ) (after : List ℕ) (p : C
         ),
       )
 
-descent_scans : (n : ℕ) (table query : List ℕ) (answer : FindAnswer) → FindPromise n table query answer → find_number answer ≡ 0
+descent_scans : (n : ℕ) (table query : List ℕ) (answer : Result Finding Refusal) → FindPromise n table query answer → number_of answer ≡ 0
     → (find_row answer ≡ scan (rows n table) query) × (find_steps answer ≤ degree query + n)
 descent_scans n table query answer p e =
     let z : refusal (find_checks n table query) ≡ 0 = sym p.number ∙ e in

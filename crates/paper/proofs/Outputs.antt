@@ -1,6 +1,14 @@
 -- What goes out is what the rules say: values, exported numbers, the listing.
 --
 --   value_demand, export_demand, row_demand, listing_demand
+use Rattle.std.specs.Prelude.{Result, Ok, Err}
+use Rattle.std.specs.Prelude as code
+use Rattle.checks.proofs.OutcomeLaws.{number_positive}
+use Rattle.checks.specs.Outcomes.{number_of, value_or}
+use Rattle.checks.specs.declared.Refusal.{Refusal}
+use Rattle.terms.specs.declared.RowNumber.{RowNumber}
+use Rattle.terms.specs.declared.Degree.{Degree}
+use Rattle.finding.specs.declared.Finding.{Finding}
 use mathlib.Core.Path.{◌≡◌, refl, sym, ap, ◌∙◌, subst}
 use mathlib.Core.List.Memᴰ
 use mathlib.Core.List.{List}
@@ -13,16 +21,12 @@ use Rattle.terms.specs.Monomials.{Table}
 use Rattle.checks.specs.Refusals.{Check, Accepts, Refuses, refusal}
 use Rattle.terms.proofs.RowsLaws.{rows_size}
 use Rattle.checks.proofs.RefusalLaws.{accepts_refusal, refuses_refusal, answered_accepted}
-use Rattle.inside.specs.Operation.{InsidePromise, inside_number}
+use Rattle.inside.specs.Operation.{InsidePromise}
 use Rattle.inside.specs.FirstDividing.{FirstDividing}
-use Rattle.finding.specs.Operation.{FindPromise, find_number, find_steps}
-use Rattle.inside.specs.declared.InsideAnswer.{InsideAnswer}
-use Rattle.inside.specs.declared.InsideAnswer.TheVariants as inside
-use Rattle.finding.specs.declared.FindAnswer.{FindAnswer}
-use Rattle.finding.specs.declared.FindAnswer.TheVariants as find
+use Rattle.finding.specs.Operation.{FindPromise, find_steps}
 use Rattle.inside.proofs.FirstLaws.{first_inside}
-use Rattle.inside.proofs.OperationLaws.{inside_finds, inside_positive}
-use Rattle.finding.proofs.OperationLaws.{find_finds, find_positive}
+use Rattle.inside.proofs.OperationLaws.{inside_finds}
+use Rattle.finding.proofs.OperationLaws.{find_finds}
 use Rattle.interface.proofs.Bounds.{inside_small, row_small}
 use Rattle.division.specs.Cones.{DivisorAt}
 use Rattle.division.specs.Janet.{Multiplicative}
@@ -30,27 +34,15 @@ use Rattle.terms.specs.Ideal.{Inside}
 use Rattle.terms.specs.Rows.{rows}
 use mathlib.Core.Logic.{◌↔◌}
 use Rattle.completion.specs.Completed.{CompletedTable, completed}
-use Rattle.completing.specs.Operation.{complete_number, complete_rows}
-use Rattle.completing.specs.declared.CompleteAnswer.{CompleteAnswer}
-use Rattle.completing.specs.declared.CompleteAnswer.TheVariants as complete
 use Rattle.completion.proofs.RuleFive.{completed_table, completed_unique}
-use Rattle.counting.specs.Operations.{count_number, count_value, polynomial_number, polynomial_value, steady_number, steady_value}
-use Rattle.counting.specs.declared.CountAnswer.{CountAnswer}
-use Rattle.counting.specs.declared.CountAnswer.TheVariants as count
-use Rattle.counting.specs.declared.PolynomialAnswer.{PolynomialAnswer}
-use Rattle.counting.specs.declared.PolynomialAnswer.TheVariants as polynomial
-use Rattle.counting.specs.declared.SteadyAnswer.{SteadyAnswer}
-use Rattle.counting.specs.declared.SteadyAnswer.TheVariants as steady
 use Rattle.bundle.specs.Format.{variables_of, body_of, table_of}
 use Rattle.bundle.specs.Checks.{bundle_checks, open_checks}
 use Rattle.bundle.proofs.ReadLaws.{open_accepted}
-use Rattle.packing.specs.Operation.{write_number, write_length}
-use Rattle.packing.specs.declared.WriteAnswer.{WriteAnswer}
-use Rattle.packing.specs.declared.WriteAnswer.TheVariants as write
 use Rattle.listing.specs.Text.{completed_text, table_text, refusal_line, part_text, bundle_text}
 use Rattle.listing.proofs.BoundLaws.{table_text_room, table_text_full}
 use Rattle.listing.proofs.PartLaws.{part_front, table_part, bundle_parts}
-use Rattle.interface.specs.Exports.{inside_out, row_out}
+use Rattle.interface.specs.Exports.{inside_out, row_out, row_number}
+use Rattle.division.specs.Scan.{Answers, number_found}
 use Rattle.paper.specs.Demands.{Settled}
 use Rattle.paper.specs.Outputs.{ValueDemand, ExportDemand, RowDemand, TableText, ListingDemand}
 use Rattle.paper.proofs.Demands.{demand_one}
@@ -71,35 +63,17 @@ returned : {checks : List Check} {number k : ℕ} → number ≡ k → Settled c
 returned {checks} e s = subst (λ (m : ℕ). Settled checks m) (sym e) s
 
 -- beside a refusal an answer's values are 0
-inside_zero : (a : InsideAnswer) → 0 < inside_number a → inside_out a ≡ 0
-inside_zero (inside.Row r) h = absurd (omega arith)
-inside_zero inside.Nothing h = absurd (omega arith)
-inside_zero (inside.Refused m) h = refl
+value_beside : {A : Type 0} (z : A) (a : Result A Refusal) → 0 < number_of a → value_or z a ≡ z
+value_beside z (Ok x) h = absurd (omega arith)
+value_beside z (Err e) h = refl
 
-find_zero : (a : FindAnswer) → 0 < find_number a → (row_out a ≡ 0) × (find_steps a ≡ 0)
-find_zero (find.Row r steps) h = absurd (omega arith)
-find_zero (find.Nothing steps) h = absurd (omega arith)
-find_zero (find.Refused m) h = (refl, refl)
+inside_zero : (a : Result (code.Option RowNumber) Refusal) → 0 < number_of a → inside_out a ≡ 0
+inside_zero (Ok f) h = absurd (omega arith)
+inside_zero (Err e) h = refl
 
-complete_zero : (a : CompleteAnswer) → 0 < complete_number a → complete_rows a ≡ 0
-complete_zero (complete.Rows k) h = absurd (omega arith)
-complete_zero (complete.Refused m) h = refl
-
-count_zero : (a : CountAnswer) → 0 < count_number a → count_value a ≡ 0
-count_zero (count.Value v) h = absurd (omega arith)
-count_zero (count.Refused m) h = refl
-
-polynomial_zero : (a : PolynomialAnswer) → 0 < polynomial_number a → polynomial_value a ≡ pos 0
-polynomial_zero (polynomial.Value v) h = absurd (omega arith)
-polynomial_zero (polynomial.Refused m) h = refl
-
-steady_zero : (a : SteadyAnswer) → 0 < steady_number a → steady_value a ≡ 0
-steady_zero (steady.At d) h = absurd (omega arith)
-steady_zero (steady.Refused m) h = refl
-
-write_zero : (a : WriteAnswer) → 0 < write_number a → write_length a ≡ 0
-write_zero (write.Length k) h = absurd (omega arith)
-write_zero (write.Refused m) h = refl
+find_zero : (a : Result Finding Refusal) → 0 < number_of a → (row_out a ≡ 0) × (find_steps a ≡ 0)
+find_zero (Ok f) h = absurd (omega arith)
+find_zero (Err e) h = (refl, refl)
 
 pub export_demand : ExportDemand
 export_demand = record {
@@ -112,20 +86,20 @@ export_demand = record {
   );
   complete = λ n table buffer number count after x.
       let d = demand_one.complete n table buffer x.answer after x.promise in
-      (returned x.returned d.0, λ l. (x.counted ∙ complete_zero x.answer (omega (arith, x.returned)), d.1 (omega (arith, x.returned))));
+      (returned x.returned d.0, λ l. (x.counted ∙ value_beside 0 x.answer (omega (arith, x.returned)), d.1 (omega (arith, x.returned))));
   find = λ n table query number row steps x. (
     returned x.returned (demand_one.find n table query x.answer x.promise),
     λ l.
         let z = find_zero x.answer (omega (arith, x.returned)) in (x.found ∙ z.0, x.taken ∙ z.1),
   );
   count = λ n table s number value x.
-      (returned x.returned (demand_one.count n table s x.answer x.promise), λ l. x.counted ∙ count_zero x.answer (omega (arith, x.returned)));
+      (returned x.returned (demand_one.count n table s x.answer x.promise), λ l. x.counted ∙ value_beside 0 x.answer (omega (arith, x.returned)));
   polynomial = λ n table s number value x. (
     returned x.returned (demand_one.polynomial n table s x.answer x.promise),
-    λ l. x.value_is ∙ polynomial_zero x.answer (omega (arith, x.returned)),
+    λ l. x.value_is ∙ value_beside (pos 0) x.answer (omega (arith, x.returned)),
   );
   steady = λ n table number degree x.
-      (returned x.returned (demand_one.steady n table x.answer x.promise), λ l. x.degree_is ∙ steady_zero x.answer (omega (arith, x.returned)));
+      (returned x.returned (demand_one.steady n table x.answer x.promise), λ l. x.degree_is ∙ ap (λ (d : Degree). d.0) (value_beside (record { 0 = 0 }) x.answer (omega (arith, x.returned))));
   opened = λ bundle j number n count offset x.
       let d = demand_one.locate bundle j x.answer x.promise in (
         returned x.returned d.0,
@@ -134,7 +108,7 @@ export_demand = record {
       );
   write = λ n counts tables buffer number size after x.
       let d = demand_one.write n counts tables buffer x.answer after x.promise in
-      (returned x.returned d.0, λ l. (x.size_is ∙ write_zero x.answer (omega (arith, x.returned)), d.1 (omega (arith, x.returned))));
+      (returned x.returned d.0, λ l. (x.size_is ∙ value_beside 0 x.answer (omega (arith, x.returned)), d.1 (omega (arith, x.returned))));
 }
 
 -- ---- row numbers
@@ -144,27 +118,29 @@ module _ (n : ℕ) (table query : List ℕ) (row : ℕ) where
   G = rows n table
 
   -- the row that is given divides, so the ideal has the query; none is given where the query is outside
-  inside_row_lem : (a : InsideAnswer) → InsidePromise n table query a → inside_number a ≡ 0 → row ≡ inside_out a
+  inside_row_lem : (a : Result (code.Option RowNumber) Refusal) → InsidePromise n table query a → number_of a ≡ 0 → row ≡ inside_out a
       → ((row ≡ 65535) ↔ (Inside G query → ⊥)) × ((row ≡ 65535 → ⊥) → (row < 4096) × FirstDividing G query row)
-  inside_row_lem (inside.Row r) p e f =
-      let d : FirstDividing G query r.0 = inside_finds n table query (sym p.number) (inside.Row r) p in
+  inside_row_lem (Ok (code.Some r)) p e f =
+      let d : FirstDividing G query r.0 = inside_finds n table query (sym p.number) (Ok (code.Some r)) p in
       let small : r.0 < 4096 = inside_small p refl in (
         (λ h. absurd (omega arith), λ outside. absurd (outside (first_inside d))),
         λ h. (omega arith, rw f d),
       )
-  inside_row_lem inside.Nothing p e f = ((λ h. inside_finds n table query (sym p.number) inside.Nothing p, λ o. f), λ h. absurd (h f))
-  inside_row_lem (inside.Refused m) p e f = absurd (omega (arith, inside_positive p, e))
+  inside_row_lem (Ok code.None) p e f = ((λ h. inside_finds n table query (sym p.number) (Ok code.None) p, λ o. f), λ h. absurd (h f))
+  inside_row_lem (Err x) p e f = absurd (omega (arith, number_positive x, e))
 
-  find_row_lem : (a : FindAnswer) → FindPromise n table query a → find_number a ≡ 0 → row ≡ row_out a
+  found_out : (o : code.Option RowNumber) → Answers Multiplicative G query (number_found o) → code.IfSome o (λ r. r.0 < 4096) → row ≡ row_number o
       → ((row ≡ 65535) ↔ ((r : ℕ) → DivisorAt Multiplicative G r query → ⊥)) × ((row ≡ 65535 → ⊥) → (row < 4096) × DivisorAt Multiplicative G row query)
-  find_row_lem (find.Row r steps) p e f =
-      let d : DivisorAt Multiplicative G r.0 query = find_finds n table query (find.Row r steps) p (sym p.number) in
-      let small : r.0 < 4096 = row_small p refl in (
-        (λ h. absurd (omega arith), λ none. absurd (none r.0 d)),
-        λ h. (omega arith, rw f d),
-      )
-  find_row_lem (find.Nothing steps) p e f = ((λ h. find_finds n table query (find.Nothing steps) p (sym p.number), λ o. f), λ h. absurd (h f))
-  find_row_lem (find.Refused m) p e f = absurd (omega (arith, find_positive p, e))
+  found_out (code.Some r) d small f = (
+    (λ h. absurd (omega arith), λ none. absurd (none r.0 d)),
+    λ h. (omega arith, rw f d),
+  )
+  found_out code.None none small f = ((λ h. none, λ o. f), λ h. absurd (h f))
+
+  find_row_lem : (a : Result Finding Refusal) → FindPromise n table query a → number_of a ≡ 0 → row ≡ row_out a
+      → ((row ≡ 65535) ↔ ((r : ℕ) → DivisorAt Multiplicative G r query → ⊥)) × ((row ≡ 65535 → ⊥) → (row < 4096) × DivisorAt Multiplicative G row query)
+  find_row_lem (Ok f) p e g = found_out f.row (find_finds n table query (Ok f) p (sym p.number)) (row_small p refl) g
+  find_row_lem (Err x) p e f = absurd (omega (arith, number_positive x, e))
 
 pub row_demand : RowDemand
 row_demand = record {

@@ -1,6 +1,10 @@
 -- What is written is opened, and what is accepted is written again.
 --
 --   round_trips
+use Rattle.std.specs.Prelude.{Result, Ok, Err}
+use Rattle.checks.proofs.OutcomeLaws.{number_positive}
+use Rattle.checks.specs.Outcomes.{number_of}
+use Rattle.checks.specs.declared.Refusal.{Refusal}
 use mathlib.Core.Path.{◌≡◌, refl, sym, ap, ◌∙◌, subst}
 use mathlib.Core.List.{List, [], ◌++◌}
 use Prim.Native.Nat.{ℕ, ◌*◌, ◌≤◌, ◌<◌}
@@ -14,29 +18,27 @@ use Rattle.checks.specs.Refusals.{Accepts, refusal}
 use Rattle.checks.proofs.RefusalLaws.{accepted, accepts_refusal, answered_accepted}
 use Rattle.bundle.specs.Format.{variables_of, table_count, tables_of, Bytes, counts_of, bodies_of, body_of}
 use Rattle.bundle.specs.Checks.{bundle_checks, open_checks}
-use Rattle.bundle.specs.Operation.{OpenPromise}
+use Rattle.bundle.specs.Operation.{OpenPromise, opened_bytes}
 use Rattle.bundle.specs.declared.OpenedTable.{OpenedTable}
 use Rattle.bundle.proofs.BytesLaws.{length_tables_from}
 use Rattle.bundle.proofs.ReadLaws.{opens_table, numbers}
 use Rattle.packing.specs.GivenTables.{given_tables}
-use Rattle.packing.specs.Operation.{WritePromise, write_number, write_length}
-use Rattle.packing.specs.declared.WriteAnswer.{WriteAnswer}
-use Rattle.packing.specs.declared.WriteAnswer.TheVariants.{Length, Refused}
+use Rattle.packing.specs.Operation.{WritePromise, write_length}
 use Rattle.packing.proofs.CheckLaws.{writable, writable_passes}
 use Rattle.packing.proofs.GivenLaws.{length_given, counts_given, bodies_given, given_at, length_counts}
-use Rattle.packing.proofs.OperationLaws.{write_unique, write_accepts, write_front, write_positive}
+use Rattle.packing.proofs.OperationLaws.{write_unique, write_accepts, write_front}
 use Rattle.packing.proofs.RoundLaws.{Opens, opens_at, opens_count, opens_body, written_opens}
 use Rattle.packing.proofs.AgainLaws.{given_same, again_writable}
 use Rattle.interface.specs.Exports.{OpenExport, WriteExport}
 use Rattle.paper.specs.RoundTrips.{Shows, Opened, Apart, RoundTrips}
 
 -- what `open` gives of a bundle of known tables
-shows : {n : ℕ} {Ts : List Table} (b : Bor (List ℕ)) → Opens b.now n Ts → (j : ℕ) → j < length Ts → (answer : OpenedTable) → OpenPromise b j answer
+shows : {n : ℕ} {Ts : List Table} (b : Bor (List ℕ)) → Opens b.now n Ts → (j : ℕ) → j < length Ts → (answer : Result OpenedTable Refusal) → OpenPromise b j answer
     → Shows n (get_or Ts j []) answer
 shows {n} {Ts} b o j h answer p =
     let checks = open_checks b.now j in
     let z : refusal checks ≡ 0 = sym (opens_table b.now j o.passes (omega (arith, o.count))) in
-    let body : answer.bytes.now ≡ body_of b.now j = p.shown ∙ answered_accepted checks (body_of b.now j) [] z in
+    let body : opened_bytes answer ≡ body_of b.now j = p.shown ∙ answered_accepted checks (body_of b.now j) [] z in
     record {
       number = p.number ∙ z;
       variables = p.variables ∙ answered_accepted checks _ 0 z ∙ o.variables;
@@ -57,12 +59,12 @@ opened {bundle} {n} {Ts} o = record {
 -- ---- what is written
 
 module _ {n : ℕ} {counts tables buffer : List ℕ} where
-  write_opens : (answer : WriteAnswer) {after : List ℕ} → WritePromise n counts tables buffer answer after → write_number answer ≡ 0
+  write_opens : (answer : Result ℕ Refusal) {after : List ℕ} → WritePromise n counts tables buffer answer after → number_of answer ≡ 0
       → Opens (take (write_length answer) after) n (given_tables n counts tables)
-  write_opens (Length k) p e = rw (write_front p) (written_opens (writable n counts tables (length buffer) (sym p.number)))
-  write_opens (Refused m) p e = absurd (omega (arith, write_positive p))
+  write_opens (Ok k) p e = rw (write_front p) (written_opens (writable n counts tables (length buffer) (sym p.number)))
+  write_opens (Err x) p e = absurd (omega (arith, e, number_positive x))
 
-  write_given : (answer : WriteAnswer) {after : List ℕ} → WritePromise n counts tables buffer answer after → write_number answer ≡ 0
+  write_given : (answer : Result ℕ Refusal) {after : List ℕ} → WritePromise n counts tables buffer answer after → number_of answer ≡ 0
       → (counts_of (given_tables n counts tables) ≡ counts) × (bodies_of (given_tables n counts tables) ≡ tables)
   write_given answer p e = (
     counts_given n counts tables,
@@ -88,9 +90,9 @@ apart bundle a =
     }
 
 write_again : (bundle : List ℕ) → Bytes bundle → Accepts (bundle_checks bundle) → (buffer : List ℕ) → length bundle ≤ length buffer
-    → (answer : WriteAnswer) (after : List ℕ)
+    → (answer : Result ℕ Refusal) (after : List ℕ)
     → WritePromise (variables_of bundle) (counts_of (tables_of bundle)) (bodies_of (tables_of bundle)) buffer answer after
-    → (write_number answer ≡ 0) × (write_length answer ≡ length bundle) × (after ≡ bundle ++ drop (length bundle) buffer)
+    → (number_of answer ≡ 0) × (write_length answer ≡ length bundle) × (after ≡ bundle ++ drop (length bundle) buffer)
 write_again bundle bytes a buffer h answer after p =
     let n = variables_of bundle in
     let counts = counts_of (tables_of bundle) in
@@ -100,7 +102,7 @@ write_again bundle bytes a buffer h answer after p =
     let accepts = writable_passes n counts tables (length buffer) (again_writable bundle bytes z (length buffer) h) in
     let u = write_unique p (write_accepts n counts tables buffer (length bundle) (bundle ++ drop (length bundle) buffer) accepts
     (ap length (sym same)) (rw same)) in
-    (ap write_number u.0, ap write_length u.0, u.1)
+    (ap number_of u.0, ap write_length u.0, u.1)
 
 -- ---- the exported functions
 

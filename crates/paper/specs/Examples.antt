@@ -4,6 +4,9 @@
 --   Gives d o k       a descent gives this row number, in so many steps
 --
 -- The tables that they speak of, table_b to completed_i, stand in `terms/specs/ExampleTables`.
+use Rattle.checks.specs.declared.Refusal.TheVariants.{Room}
+use Rattle.checks.specs.declared.Refusal.{Refusal}
+use Rattle.std.specs.Prelude.{Result, Ok, Err}
 use Rattle.std.specs.Prelude.{◌≡◌, List, [], ◌∷◌, ℕ, pos, length}
 use Rattle.std.proofs.Math.Option.{Option, none, some}
 use Rattle.terms.specs.Monomials.{Monomial, EqualRows}
@@ -18,15 +21,11 @@ use Rattle.marking.specs.Operation.{marks_checks}
 use Rattle.inside.specs.Operation.{inside_checks}
 use Rattle.finding.specs.Operation.{find_checks}
 use Rattle.completing.specs.Operation.{complete_checks, CompletePromise}
-use Rattle.completing.specs.declared.CompleteAnswer.{CompleteAnswer}
-use Rattle.completing.specs.declared.CompleteAnswer.TheVariants.{Rows, Refused}
 use Rattle.counts.specs.Counts.{count_at, polynomial_at, steady_of}
 use Rattle.counting.specs.Operations.{count_checks}
 use Rattle.bundle.specs.Checks.{open_checks}
 use Rattle.listing.specs.Text.{bundle_text}
 use Rattle.packing.specs.Operation.{write_checks, WritePromise}
-use Rattle.packing.specs.declared.WriteAnswer.{WriteAnswer}
-use Rattle.packing.specs.declared.WriteAnswer.TheVariants as write
 
 -- a descent gives this row number, in so many steps
 pub record Gives (d : Descent) (o : Option ℕ) (k : ℕ) : Type 0 where
@@ -57,10 +56,10 @@ pub record StarredExamples : Type 0 where
   -- document 004's rows, columns reversed, complete to five rows
   pub I : CompletedTable 3 table_i completed_i
   -- D's rows with 6 bytes of room are accepted, with 5 refused by 8
-  pub J : ((buffer : List ℕ) (answer : CompleteAnswer) (after : List ℕ) → length buffer ≡ 6 → CompletePromise 2 bytes_d buffer answer after → answer ≡ Rows 3)
-      × ((buffer : List ℕ) (answer : CompleteAnswer) (after : List ℕ) → length buffer ≡ 5 → CompletePromise 2 bytes_d buffer answer after → answer ≡ Refused 8)
+  pub J : ((buffer : List ℕ) (answer : Result ℕ Refusal) (after : List ℕ) → length buffer ≡ 6 → CompletePromise 2 bytes_d buffer answer after → answer ≡ Ok 3)
+      × ((buffer : List ℕ) (answer : Result ℕ Refusal) (after : List ℕ) → length buffer ≡ 5 → CompletePromise 2 bytes_d buffer answer after → answer ≡ Err Room)
   -- D's rows, written with 10 bytes of room, are the listing's bundle; with 9 they are refused by 8
-  pub d_written : ((buffer : List ℕ) (answer : WriteAnswer) (after : List ℕ) → length buffer ≡ 10 → WritePromise 2 (2 ∷ []) bytes_d buffer answer after
-      → (answer ≡ write.Length 10) × (after ≡ bundle_d))
-      × ((buffer : List ℕ) (answer : WriteAnswer) (after : List ℕ) → length buffer ≡ 9 → WritePromise 2 (2 ∷ []) bytes_d buffer answer after
-      → answer ≡ write.Refused 8)
+  pub d_written : ((buffer : List ℕ) (answer : Result ℕ Refusal) (after : List ℕ) → length buffer ≡ 10 → WritePromise 2 (2 ∷ []) bytes_d buffer answer after
+      → (answer ≡ Ok 10) × (after ≡ bundle_d))
+      × ((buffer : List ℕ) (answer : Result ℕ Refusal) (after : List ℕ) → length buffer ≡ 9 → WritePromise 2 (2 ∷ []) bytes_d buffer answer after
+      → answer ≡ Err Room)

@@ -3,44 +3,41 @@
 --
 --   OneResult     a field for each public operation
 --   OneExport     a field for each exported function
+use Rattle.finding.specs.declared.Finding.{Finding}
+use Rattle.terms.specs.declared.Degree.{Degree}
+use Rattle.terms.specs.declared.RowNumber.{RowNumber}
+use Rattle.checks.specs.declared.Refusal.{Refusal}
+use Rattle.std.specs.Prelude.{Result, Option, ⊤}
 use Rattle.std.specs.Prelude.{◌≡◌, List, ℕ, ℤ}
 use Rattle.std.specs.Borrow.{Bor}
 use Rattle.marking.specs.Operation.{MarksPromise}
 use Rattle.inside.specs.Operation.{InsidePromise}
 use Rattle.finding.specs.Operation.{FindPromise}
-use Rattle.marking.specs.declared.MarksAnswer.{MarksAnswer}
-use Rattle.inside.specs.declared.InsideAnswer.{InsideAnswer}
-use Rattle.finding.specs.declared.FindAnswer.{FindAnswer}
 use Rattle.completing.specs.Operation.{CompletePromise}
-use Rattle.completing.specs.declared.CompleteAnswer.{CompleteAnswer}
 use Rattle.counting.specs.Operations.{CountPromise, PolynomialPromise, SteadyPromise}
-use Rattle.counting.specs.declared.CountAnswer.{CountAnswer}
-use Rattle.counting.specs.declared.PolynomialAnswer.{PolynomialAnswer}
-use Rattle.counting.specs.declared.SteadyAnswer.{SteadyAnswer}
 use Rattle.bundle.specs.Operation.{LocatePromise, OpenPromise, SameOpened}
 use Rattle.bundle.specs.declared.Located.{Located}
 use Rattle.bundle.specs.declared.OpenedTable.{OpenedTable}
 use Rattle.packing.specs.Operation.{WritePromise}
-use Rattle.packing.specs.declared.WriteAnswer.{WriteAnswer}
 use Rattle.listing.specs.Operation.{PartPromise}
 use Rattle.interface.specs.Exports.{MarksExport, InsideExport, CompleteExport, FindExport, CountExport, PolynomialExport, SteadyExport, OpenExport}
 use Rattle.interface.specs.Exports.{WriteExport}
 
 pub record OneResult : Type 0 where
-  pub marks : (n : ℕ) (table buffer : List ℕ) (a b : MarksAnswer) (x y : List ℕ) → MarksPromise n table buffer a x
+  pub marks : (n : ℕ) (table buffer : List ℕ) (a b : Result ⊤ Refusal) (x y : List ℕ) → MarksPromise n table buffer a x
       → MarksPromise n table buffer b y → (a ≡ b) × (x ≡ y)
-  pub inside : (n : ℕ) (table query : List ℕ) (a b : InsideAnswer) → InsidePromise n table query a → InsidePromise n table query b → a ≡ b
-  pub find : (n : ℕ) (table query : List ℕ) (a b : FindAnswer) → FindPromise n table query a → FindPromise n table query b → a ≡ b
-  pub complete : (n : ℕ) (table buffer : List ℕ) (a b : CompleteAnswer) (x y : List ℕ) → CompletePromise n table buffer a x
+  pub inside : (n : ℕ) (table query : List ℕ) (a b : Result (Option RowNumber) Refusal) → InsidePromise n table query a → InsidePromise n table query b → a ≡ b
+  pub find : (n : ℕ) (table query : List ℕ) (a b : Result Finding Refusal) → FindPromise n table query a → FindPromise n table query b → a ≡ b
+  pub complete : (n : ℕ) (table buffer : List ℕ) (a b : Result ℕ Refusal) (x y : List ℕ) → CompletePromise n table buffer a x
       → CompletePromise n table buffer b y → (a ≡ b) × (x ≡ y)
-  pub count : (n : ℕ) (table : List ℕ) (s : ℕ) (a b : CountAnswer) → CountPromise n table s a → CountPromise n table s b → a ≡ b
-  pub polynomial : (n : ℕ) (table : List ℕ) (s : ℕ) (a b : PolynomialAnswer) → PolynomialPromise n table s a → PolynomialPromise n table s b → a ≡ b
-  pub steady : (n : ℕ) (table : List ℕ) (a b : SteadyAnswer) → SteadyPromise n table a → SteadyPromise n table b → a ≡ b
-  pub locate : (bundle : List ℕ) (j : ℕ) (a b : Located) → LocatePromise bundle j a → LocatePromise bundle j b → a ≡ b
-  pub opened : (bundle : Bor (List ℕ)) (j : ℕ) (a b : OpenedTable) → OpenPromise bundle j a → OpenPromise bundle j b → SameOpened a b
+  pub count : (n : ℕ) (table : List ℕ) (s : ℕ) (a b : Result ℕ Refusal) → CountPromise n table s a → CountPromise n table s b → a ≡ b
+  pub polynomial : (n : ℕ) (table : List ℕ) (s : ℕ) (a b : Result ℤ Refusal) → PolynomialPromise n table s a → PolynomialPromise n table s b → a ≡ b
+  pub steady : (n : ℕ) (table : List ℕ) (a b : Result Degree Refusal) → SteadyPromise n table a → SteadyPromise n table b → a ≡ b
+  pub locate : (bundle : List ℕ) (j : ℕ) (a b : Result Located Refusal) → LocatePromise bundle j a → LocatePromise bundle j b → a ≡ b
+  pub opened : (bundle : Bor (List ℕ)) (j : ℕ) (a b : Result OpenedTable Refusal) → OpenPromise bundle j a → OpenPromise bundle j b → SameOpened a b
   pub part : (bundle : List ℕ) (j : ℕ) (before : List ℕ) (r s : ℕ) (x y : List ℕ) → PartPromise bundle j before r x
       → PartPromise bundle j before s y → (r ≡ s) × (x ≡ y)
-  pub write : (n : ℕ) (counts tables buffer : List ℕ) (a b : WriteAnswer) (x y : List ℕ) → WritePromise n counts tables buffer a x
+  pub write : (n : ℕ) (counts tables buffer : List ℕ) (a b : Result ℕ Refusal) (x y : List ℕ) → WritePromise n counts tables buffer a x
       → WritePromise n counts tables buffer b y → (a ≡ b) × (x ≡ y)
 
 pub record OneExport : Type 0 where

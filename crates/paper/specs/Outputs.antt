@@ -6,25 +6,27 @@
 --   TableText b j H   part j of the output is the text of the completed table H, or the line that says that there is no room for it
 --   ListingDemand   what the library makes for `janet` to write: part j of an accepted bundle is the text of rule 5's table of table j, a
 --                   refused bundle has the line of its refusal, and the parts are the whole
+use Rattle.std.specs.Prelude.{Result, Option}
+use Rattle.checks.specs.Outcomes.{number_of}
+use Rattle.checks.specs.declared.Refusal.{Refusal}
+use Rattle.terms.specs.declared.RowNumber.{RowNumber}
+use Rattle.terms.specs.declared.Degree.{Degree}
 use Rattle.std.specs.Prelude.{◌≡◌, List, ◌↔◌, ℕ, ◌≤◌, ◌<◌, ℤ, pos, length, take}
 use Rattle.terms.specs.Monomials.{Table}
 use Rattle.terms.specs.Ideal.{Inside}
 use Rattle.terms.specs.Rows.{rows}
 use Rattle.checks.specs.Refusals.{Accepts, Refuses}
 use Rattle.marking.specs.Operation.{marks_checks}
-use Rattle.inside.specs.Operation.{InsidePromise, inside_checks, inside_number, inside_row}
+use Rattle.inside.specs.Operation.{InsidePromise, inside_checks, inside_row}
 use Rattle.inside.specs.FirstDividing.{FirstDividing, DividesFirst}
 use Rattle.division.specs.Cones.{DivisorAt}
 use Rattle.division.specs.Janet.{Multiplicative}
 use Rattle.finding.specs.Operation.{find_checks}
-use Rattle.inside.specs.declared.InsideAnswer.{InsideAnswer}
 use Rattle.completion.specs.Completed.{CompletedTable}
 use Rattle.completing.specs.Operation.{complete_checks}
 use Rattle.counts.specs.Counts.{polynomial_at, steady_of}
-use Rattle.counting.specs.Operations.{PolynomialPromise, SteadyPromise, count_checks, steady_checks, polynomial_number, polynomial_value, steady_number}
+use Rattle.counting.specs.Operations.{PolynomialPromise, SteadyPromise, count_checks, steady_checks, polynomial_value}
 use Rattle.counting.specs.Operations.{steady_value}
-use Rattle.counting.specs.declared.PolynomialAnswer.{PolynomialAnswer}
-use Rattle.counting.specs.declared.SteadyAnswer.{SteadyAnswer}
 use Rattle.bundle.specs.Format.{variables_of, table_of}
 use Rattle.bundle.specs.Checks.{bundle_checks, open_checks}
 use Rattle.packing.specs.Operation.{write_checks}
@@ -35,11 +37,11 @@ use Rattle.interface.specs.Exports.{WriteExport}
 use Rattle.paper.specs.Demands.{Settled}
 
 pub record ValueDemand : Type 0 where
-  pub inside : (n : ℕ) (table query : List ℕ) (answer : InsideAnswer) → InsidePromise n table query answer → inside_number answer ≡ 0
+  pub inside : (n : ℕ) (table query : List ℕ) (answer : Result (Option RowNumber) Refusal) → InsidePromise n table query answer → number_of answer ≡ 0
       → DividesFirst (rows n table) query (inside_row answer)
-  pub polynomial : (n : ℕ) (table : List ℕ) (s : ℕ) (answer : PolynomialAnswer) → PolynomialPromise n table s answer → polynomial_number answer ≡ 0
+  pub polynomial : (n : ℕ) (table : List ℕ) (s : ℕ) (answer : Result ℤ Refusal) → PolynomialPromise n table s answer → number_of answer ≡ 0
       → polynomial_value answer ≡ polynomial_at n (rows n table) s
-  pub steady : (n : ℕ) (table : List ℕ) (answer : SteadyAnswer) → SteadyPromise n table answer → steady_number answer ≡ 0
+  pub steady : (n : ℕ) (table : List ℕ) (answer : Result Degree Refusal) → SteadyPromise n table answer → number_of answer ≡ 0
       → steady_value answer ≡ steady_of (rows n table)
 
 pub record ExportDemand : Type 1 where

@@ -2,8 +2,8 @@
 --
 --   HeadRoom, head_room    the sizes that it counts on
 --   head_stays             the tails add nothing
---   head_full              no room for the block repeated
---   head_closes            the block of the head is written, or had no room
+--   head_full, head_over   no room for the block repeated, or for the block of the head
+--   head_closes            the block of the head is written
 use mathlib.Core.Path.{◌≡◌, sym, ap, ◌∙◌, subst}
 use mathlib.Core.Bool.{Bool, true, false}
 use mathlib.Core.List.Memᴰ
@@ -14,6 +14,7 @@ use native.Mathlib.Omega.{arith}
 use borrow.Rule.Slice.PartMut.{put_mid, post_of, take_put, same_len_mid}
 use lib.ListN.{length, take, drop, set, length-append, length-drop}
 use lib.Seq.{take-suc-set, length-take-le, drop_at, take-append-le}
+use Rattle.std.proofs.Common.{Option, Some, None}
 use Rattle.terms.specs.Monomials.{Monomial, Table, OfSize}
 use Rattle.terms.specs.Rows.{first_rows, flat}
 use Rattle.terms.proofs.RowsLaws.{length_first_rows, first_rows_size, length_flat}
@@ -24,7 +25,7 @@ use Rattle.slicing.specs.Walk.{Appended, BlockClosed, Standing, HeadTaken, Roomy
 use Rattle.slicing.specs.declared.Progress.{Progress}
 use Rattle.completion.proofs.SliceLaws.{at_size}
 use Rattle.completion.proofs.WalkLaws.{slices_size, size_both, walk_stays, walk_grows, walk_room, walk_generators, walk_block, walk_written, walk_end}
-use Rattle.blocks.proofs.BufferLaws.{flat_append, length_behind, length_after, after_size, after_append, after_behind, after_drop, fit_within, fit_beyond}
+use Rattle.blocks.proofs.BufferLaws.{flat_append, length_behind, length_after, after_size, after_append, after_behind, after_drop, fit_within, fit_more}
 use Rattle.blocks.proofs.BufferLaws.{beyond_fit, within_fit}
 use Rattle.blocks.proofs.ByteLaws.{rows_fewer, times_large, shorter_front}
 use Rattle.blocks.proofs.RowLaws.{part_add, same_rows, same_part, read_back, copies_repeated}
@@ -44,8 +45,8 @@ pub record HeadRoom (rest rows a : ℕ) (work next : List ℕ) (progress : Progr
   pub block : progress.from.0 ≤ progress.end
   pub last : progress.last ≤ a
 
-module _ {T : Table} {start : ℕ} {P : List ℕ} {n rest rows : ℕ} {prefix : List ℕ} {room a : ℕ} {work out : List ℕ} {progress : Progress}
-    (S : Standing n T start P rest rows prefix room a work out progress) (R : Roomy n rest rows work out room progress.end) where
+module _ {T : Table} {start : ℕ} {P : List ℕ} {n rest rows : ℕ} {prefix : List ℕ} {a : ℕ} {work out : List ℕ} {progress : Progress}
+    (S : Standing n T start P rest rows prefix a work out progress) (R : Roomy n rest rows work out progress.end) where
   -- the model's walk, the generators with the tails of a, the block of a, the blocks between, the first exponents
   abbrev W : Walk
   W = walk (λ H. slices rest H) T a
@@ -123,13 +124,13 @@ module _ {T : Table} {start : ℕ} {P : List ℕ} {n rest rows : ℕ} {prefix : 
     grows_as : fresh W.generators (at a T) ≡ g
     grows_as = sym (tested ∙ rw (old_generators, new_tails))
 
-    pub head_stays : g ≡ false → HeadTaken n T start P rest rows prefix room a work progress work₁ out
+    pub head_stays : g ≡ false → HeadTaken n T start P rest rows prefix a work out (Some progress) work₁ out
     head_stays f =
         let e : walk (λ H. slices rest H) T (suc a) ≡ W = walk_stays (λ H. slices rest H) T a (grows_as ∙ f) in
         record {
           kept = kept_front;
-          end = rw e (S.end ∙ sym (fit_within room (start + length W.written) (omega (arith, S.end, S.within))));
-          on = λ l. record {
+          end = rw e (ap Some S.end ∙ sym (fit_within n (length out) (start + length W.written) (rw S.end at S.within)));
+          on = record {
             table = kept_table work₁ same kept_front;
             last = rw e S.last;
             generators = rw e (ap (λ (x : ℕ). part rest progress.generators x work₁) (sym base_is) ∙ old_generators);
@@ -206,47 +207,43 @@ module _ {T : Table} {start : ℕ} {P : List ℕ} {n rest rows : ℕ} {prefix : 
       abbrev again : Table
       again = copies (n - rest - 1) (suc progress.last) (a - suc progress.last) (part n (progress.end - progress.from.0) (progress.from.0 * n) out)
 
+      again_rows : again ≡ after p M
+      again_rows =
+          let at_front : n - rest - 1 ≡ length p = omega (arith, front_length) in
+          ap (λ (H : Table). copies (n - rest - 1) (suc progress.last) (a - suc progress.last) H) block_rows
+          ∙ ap (λ (x : ℕ). copies (n - rest - 1) (suc x) (a - suc x) (after p (behind W.last W.block))) S.last
+          ∙ ap (λ (x : ℕ). copies x (suc W.last) (a - suc W.last) (after p (behind W.last W.block))) at_front
+          ∙ copies_repeated p W.last (suc W.last) (a - suc W.last) W.block
+
+      again_end : fit n (length out) (progress.end + length again) ≡ fit n (length out) (progress.end + length M)
+      again_end = ap (λ (x : ℕ). fit n (length out) (progress.end + x)) (ap length again_rows ∙ length_after p M)
+
+      pub head_full : None ≡ fit n (length out) (progress.end + length again) → {o : List ℕ} → HeadTaken n T start P rest rows prefix a work out None work₁ o
+      head_full e =
+          let b : length out < (progress.end + length M) * n = beyond_fit n (length out) (progress.end + length M) (e ∙ again_end) in
+          let all : ℕ = start + length (walk (λ H. slices rest H) T (suc a)).written in
+          record { kept = kept_front; end = sym (fit_more n (length out) (progress.end + length M) all b (omega (arith, next_length))); on = tt }
+
       module _ (out₁ : List ℕ) {row : ℕ}
-          (block : (row ≡ fit room (progress.end + length again)) × (row ≤ room → take (row * n) out₁ ≡ take (progress.end * n) out ++ flat again)) where
-        again_rows : again ≡ after p M
-        again_rows =
-            let at_front : n - rest - 1 ≡ length p = omega (arith, front_length) in
-            ap (λ (H : Table). copies (n - rest - 1) (suc progress.last) (a - suc progress.last) H) block_rows
-            ∙ ap (λ (x : ℕ). copies (n - rest - 1) (suc x) (a - suc x) (after p (behind W.last W.block))) S.last
-            ∙ ap (λ (x : ℕ). copies x (suc W.last) (a - suc W.last) (after p (behind W.last W.block))) at_front
-            ∙ copies_repeated p W.last (suc W.last) (a - suc W.last) W.block
-
-        row_end : row ≡ fit room (progress.end + length M)
-        row_end = block.0 ∙ ap (λ (x : ℕ). fit room (progress.end + x)) (ap length again_rows ∙ length_after p M)
-
-        pub head_full : room < row → {r : Progress} → r.end ≡ row → {o : List ℕ} → HeadTaken n T start P rest rows prefix room a work r work₁ o
-        head_full h e =
-            let b : room < progress.end + length M = beyond_fit room (progress.end + length M) (omega (arith, row_end)) in
-            let all : ℕ = start + length (walk (λ H. slices rest H) T (suc a)).written in
-            record {
-              kept = kept_front;
-              end = e ∙ row_end ∙ fit_beyond room (progress.end + length M) b ∙ sym (fit_beyond room all (omega (arith, next_length)));
-              on = λ l. absurd (omega arith);
-            }
+          (block : (Some row ≡ fit n (length out) (progress.end + length again)) × (take (row * n) out₁ ≡ take (progress.end * n) out ++ flat again)) where
+        row_at_lem : (row ≡ progress.end + length M) × ((progress.end + length M) * n ≤ length out)
+        row_at_lem = within_fit n (length out) (progress.end + length M) row (block.0 ∙ again_end)
 
         -- ---- the block of a behind it
 
-        module _ (h : row ≤ room) (held : length out₁ ≡ length out) (positive : 0 < rest)
-            {m : ℕ} {longer : List ℕ} (set_is : (longer ≡ set prefix (n - rest - 1) a) × (m ≡ n)) {end : ℕ} {lent out₂ : List ℕ}
-            (appended : Appended m (rest - 1) (progress.generators + more) longer (take (length work₁ - base) (drop base work₁)) out₁ room row end lent out₂)
+        module _ (held : length out₁ ≡ length out) (positive : 0 < rest)
+            {m : ℕ} {longer : List ℕ} (set_is : (longer ≡ set prefix (n - rest - 1) a) × (m ≡ n)) {r : Option ℕ} {lent out₂ : List ℕ}
+            (appended : Appended m (rest - 1) (progress.generators + more) longer (take (length work₁ - base) (drop base work₁)) out₁ row r lent out₂)
             (same-lent : length lent ≡ length (take (length work₁ - base) (drop base work₁))) where
-          A : Appended n (rest - 1) (progress.generators + more) (set prefix (n - suc rest) a) (drop base work₁) out₁ room row end lent out₂
+          A : Appended n (rest - 1) (progress.generators + more) (set prefix (n - suc rest) a) (drop base work₁) out₁ row r lent out₂
           A =
               let at_front : n - rest - 1 ≡ n - suc rest = omega arith in
               let e : longer ≡ set prefix (n - suc rest) a = set_is.0 ∙ ap (λ (x : ℕ). set prefix x a) at_front in
               rw (set_is.1, e, lent_all base work₁) at appended
 
-          row_at_lem : row ≡ progress.end + length M
-          row_at_lem = row_end ∙ fit_within room (progress.end + length M) (within_fit room (progress.end + length M) (omega (arith, row_end)))
-
           row_bytes : take (row * n) out₁ ≡ P ++ flat (after p (W.written ++ M))
           row_bytes =
-              block.1 h ∙ rw (again_rows, S.written) (append_assoc P (flat (after p W.written)) (flat (after p M)))
+              block.1 ∙ rw (again_rows, S.written) (append_assoc P (flat (after p W.written)) (flat (after p M)))
               ∙ ap (λ (l : List ℕ). P ++ l) (sym (flat_append (after p W.written) (after p M)))
               ∙ ap (λ (H : Table). P ++ flat H) (sym (after_append p W.written M))
 
@@ -263,8 +260,8 @@ module _ {T : Table} {start : ℕ} {P : List ℕ} {n rest rows : ℕ} {prefix : 
               let e : n - suc (rest - 1) ≡ suc (n - suc rest) = omega (arith, R.variables) in
               ap (λ (x : ℕ). take x (set prefix (n - suc rest) a)) e ∙ take-suc-set prefix (n - suc rest) a (omega (arith, R.six))
 
-          end_fit : end ≡ fit room (row + length C)
-          end_fit = A.end ∙ ap (λ (H : Table). fit room (row + length H)) done
+          end_fit : r ≡ fit n (length out) (row + length C)
+          end_fit = A.end ∙ ap (λ (H : Table). fit n (length out₁) (row + length H)) done ∙ ap (λ (x : ℕ). fit n x (row + length C)) held
 
           -- the lent part is back, with the generators at its front
           abbrev back : List ℕ
@@ -285,12 +282,21 @@ module _ {T : Table} {start : ℕ} {P : List ℕ} {n rest rows : ℕ} {prefix : 
               (ap (λ (x : List ℕ). take all x) d ∙ take-append-le all lent tail fits ∙ kept)
               ∙ all_generators
 
-          module _ (fits : end ≤ room) where
-            end_at : end ≡ row + length C
-            end_at = end_fit ∙ fit_within room (row + length C) (within_fit room (row + length C) (omega (arith, end_fit)))
+          kept_back : take (rows * suc rest) back ≡ take (rows * suc rest) work
+          kept_back = rw (← base_is) (take_put base (length work₁ - base) work₁ lent (omega (arith, tails_wide R)) ∙ rw base_is kept_front)
+
+          sum : row + length C ≡ start + length (walk (λ H. slices rest H) T (suc a)).written
+          sum = omega (arith, row_at_lem, next_length)
+
+          pub head_over : r ≡ None → HeadTaken n T start P rest rows prefix a work out None back out₂
+          head_over e = record { kept = kept_back; end = sym e ∙ end_fit ∙ ap (λ (x : ℕ). fit n (length out) x) sum; on = tt }
+
+          module _ {end : ℕ} (ends : r ≡ Some end) where
+            end_at : (end ≡ row + length C) × ((row + length C) * n ≤ length out)
+            end_at = within_fit n (length out) (row + length C) end (sym ends ∙ end_fit)
 
             block_bytes : take (end * n) out₂ ≡ take (row * n) out₁ ++ flat (after p (behind a C))
-            block_bytes = A.written fits ∙ rw (done, front) (ap (λ (H : Table). take (row * n) out₁ ++ flat H) (sym (after_behind p a C)))
+            block_bytes = (rw ends at A.written) ∙ rw (done, front) (ap (λ (H : Table). take (row * n) out₁ ++ flat H) (sym (after_behind p a C)))
 
             end_bytes : take (end * n) out₂ ≡ P ++ flat (after p (walk (λ H. slices rest H) T (suc a)).written)
             end_bytes =
@@ -305,7 +311,8 @@ module _ {T : Table} {start : ℕ} {P : List ℕ} {n rest rows : ℕ} {prefix : 
                 let zk : OfSize rest K = size_both rest W.generators (at a T) (walk_generators rest T table_size a) (at_size a T table_size) in
                 let size : OfSize n (after p (behind a C)) = row_size (behind a C) (behind_size rest a C (slices_size rest K zk)) in
                 let count : length (after p (behind a C)) ≡ end - row = length_after p (behind a C) ∙ length_behind a C ∙ omega (arith, end_at) in
-                let lr : length (take (row * n) out₁) ≡ row * n = length-take-le (row * n) out₁ (omega (arith, rows_fewer row room n h, R.holds)) in
+                let row_fits : row * n ≤ length out = rw (← row_at_lem.0) at row_at_lem.1 in
+                let lr : length (take (row * n) out₁) ≡ row * n = length-take-le (row * n) out₁ (omega (arith, held)) in
                 let split : row * n + (end - row) * n ≡ end * n = sym (add-mul row (end - row) n) ∙ ap (λ (x : ℕ). x * n) (omega (arith, end_at)) in
                 let columns : n - rest ≡ suc (length p) = omega (arith, front_length, R.variables) in
                 ap (λ (H : Table). map (λ u. drop (n - rest) u) H)
@@ -314,33 +321,26 @@ module _ {T : Table} {start : ℕ} {P : List ℕ} {n rest rows : ℕ} {prefix : 
                 ∙ ap (λ (x : ℕ). map (λ u. drop x u) (after p (behind a C))) columns
                 ∙ after_drop p a C
 
-          pub head_closes : {r : Progress} {work₂ : List ℕ} →
-              BlockClosed n rest (progress.generators + more) base row end a room back out₂ r work₂ → length work₂ ≡ length back →
-              HeadTaken n T start P rest rows prefix room a work r work₂ out₂
-          head_closes {r} {work₂} Z l =
-              let all : ℕ = start + length (walk (λ H. slices rest H) T (suc a)).written in
-              let size : length work₂ ≡ length work = l ∙ same_len_mid base (length work₁ - base) work₁ lent same-lent ∙ same in
-              let kept : take (rows * suc rest) work₂ ≡ take (rows * suc rest) work =
-              rw (← base_is) (Z.kept ∙ take_put base (length work₁ - base) work₁ lent (omega (arith, tails_wide R)) ∙ rw base_is kept_front) in
-              let sum : row + length C ≡ all = omega (arith, row_at_lem, next_length) in
-              let end_is : r.end ≡ fit room all = Z.end ∙ end_fit ∙ ap (λ (x : ℕ). fit room x) sum in
-              record {
-                kept = kept;
-                end = end_is;
-                on = λ x.
-                    let fits : end ≤ room = omega (arith, Z.end) in
-                    let block : Table = map (λ u. drop (n - rest) u) (part n (end - row) (row * n) out₂) in
-                    let pick : shorter block (part rest (progress.generators + more) base back) ≡ shorter C K = rw (block_tails fits, kept_generators) in
-                    record {
-                      table = kept_table work₂ size kept;
-                      last = Z.last fits ∙ sym next_last;
-                      generators =
-                          ap (λ (x : ℕ). part rest r.generators x work₂) (sym base_is)
-                          ∙ Z.generators fits ∙ pick ∙ sym next_generators;
-                      block = ap (λ (H : Table). r.from.0 + length H) next_block ∙ omega (arith, Z.from fits, Z.end, end_at fits);
-                      before = S.before;
-                      end = Z.end ∙ end_at fits ∙ sum;
-                      within = x;
-                      written = ap (λ (x : ℕ). take (x * n) out₂) Z.end ∙ end_bytes fits;
-                    };
-              }
+            pub head_closes : {new : Progress} {work₂ : List ℕ} →
+                BlockClosed n rest (progress.generators + more) base row end a back out₂ new work₂ → length work₂ ≡ length back →
+                length out₂ ≡ length out → HeadTaken n T start P rest rows prefix a work out (Some new) work₂ out₂
+            head_closes {new} {work₂} Z l lo =
+                let size : length work₂ ≡ length work = l ∙ same_len_mid base (length work₁ - base) work₁ lent same-lent ∙ same in
+                let kept : take (rows * suc rest) work₂ ≡ take (rows * suc rest) work = rw (← base_is) Z.kept ∙ kept_back in
+                let end_is : new.end ≡ row + length C = Z.end ∙ end_at.0 in
+                let block : Table = map (λ u. drop (n - rest) u) (part n (end - row) (row * n) out₂) in
+                let pick : shorter block (part rest (progress.generators + more) base back) ≡ shorter C K = rw (block_tails, kept_generators) in
+                record {
+                  kept = kept;
+                  end = ap Some end_is ∙ sym (fit_within n (length out) (row + length C) end_at.1) ∙ ap (λ (x : ℕ). fit n (length out) x) sum;
+                  on = record {
+                    table = kept_table work₂ size kept;
+                    last = Z.last ∙ sym next_last;
+                    generators = ap (λ (x : ℕ). part rest new.generators x work₂) (sym base_is) ∙ Z.generators ∙ pick ∙ sym next_generators;
+                    block = ap (λ (H : Table). new.from.0 + length H) next_block ∙ omega (arith, Z.from, end_is);
+                    before = S.before;
+                    end = end_is ∙ sum;
+                    within = rw (← end_is, ← lo) at end_at.1;
+                    written = ap (λ (x : ℕ). take (x * n) out₂) Z.end ∙ end_bytes;
+                  };
+                }

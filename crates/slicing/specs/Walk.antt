@@ -12,7 +12,7 @@
 --   BlockClosed      what `close_block` does: the walk's state once the block of a head is written
 --   HeadTaken        what `take_head` does: the walk goes on by one head
 --   Roomy            sizes that fit, and room in both arrays
-use Rattle.std.specs.Prelude.{◌≡◌, List, ◌++◌, map, ℕ, zero, suc, ◌+◌, ◌*◌, ◌-◌, ◌≤◌, length, take, drop}
+use Rattle.std.specs.Prelude.{◌≡◌, List, ◌++◌, map, ℕ, zero, suc, ◌+◌, ◌*◌, ◌-◌, ◌≤◌, Option, option_map, IfSome, length, take, drop}
 use Rattle.terms.specs.Monomials.{Table}
 use Rattle.terms.specs.Rows.{first_rows, flat}
 use Rattle.completion.specs.Slices.{shorter, walk, slices}
@@ -23,15 +23,16 @@ unfoldable pub space : ℕ → ℕ
 space zero = 0
 space (suc m) = suc m + space m
 
--- Behind a prefix, the completed table of the table at the front of work; the table stays. What stands in out once the room is passed is left open.
-pub record Appended (n rest rows : ℕ) (prefix work out : List ℕ) (room at r : ℕ) (work' out' : List ℕ) : Type 0 where
-  pub end : r ≡ fit room (at + length (slices (suc rest) (first_rows (suc rest) rows work)))
-  pub written : r ≤ room
-      → take (r * n) out' ≡ take (at * n) out ++ flat (after (take (n - suc rest) prefix) (slices (suc rest) (first_rows (suc rest) rows work)))
+-- Behind a prefix, the completed table of the table at the front of work; the table stays. r is the new end, none where out has no room; what stands there
+-- then is left open.
+pub record Appended (n rest rows : ℕ) (prefix work out : List ℕ) (at : ℕ) (r : Option ℕ) (work' out' : List ℕ) : Type 0 where
+  pub end : r ≡ fit n (length out) (at + length (slices (suc rest) (first_rows (suc rest) rows work)))
+  pub written : IfSome r (λ e.
+      take (e * n) out' ≡ take (at * n) out ++ flat (after (take (n - suc rest) prefix) (slices (suc rest) (first_rows (suc rest) rows work))))
   pub kept : take (rows * suc rest) work' ≡ take (rows * suc rest) work
 
 -- T is the table; `start` rows were written before its first row, and P are their bytes.
-pub record Standing (n : ℕ) (T : Table) (start : ℕ) (P : List ℕ) (rest rows : ℕ) (prefix : List ℕ) (room a : ℕ) (work out : List ℕ)
+pub record Standing (n : ℕ) (T : Table) (start : ℕ) (P : List ℕ) (rest rows : ℕ) (prefix : List ℕ) (a : ℕ) (work out : List ℕ)
     (progress : Progress) : Type 0 where
   pub table : first_rows (suc rest) rows work ≡ T
   pub last : progress.last ≡ (walk (λ H. slices rest H) T a).last
@@ -39,31 +40,30 @@ pub record Standing (n : ℕ) (T : Table) (start : ℕ) (P : List ℕ) (rest row
   pub block : progress.from.0 + length (walk (λ H. slices rest H) T a).block ≡ progress.end
   pub before : length P ≡ start * n
   pub end : progress.end ≡ start + length (walk (λ H. slices rest H) T a).written
-  pub within : progress.end ≤ room
+  pub within : progress.end * n ≤ length out
   pub written : take (progress.end * n) out ≡ P ++ flat (after (take (n - suc rest) prefix) (walk (λ H. slices rest H) T a).written)
 
--- The rows of head a go from `start` to `stop`. Where there is room for them, they are the block, and the generators are the shorter of their
--- last exponents and the `all` rows that stood at byte `base`. Where there is none, only the end tells.
-pub record BlockClosed (n rest all base start stop a room : ℕ) (work out : List ℕ) (r : Progress) (work' : List ℕ) : Type 0 where
+-- The rows of head a go from `start` to `stop`. They are the block, and the generators are the shorter of their last exponents and the `all` rows that
+-- stood at byte `base`.
+pub record BlockClosed (n rest all base start stop a : ℕ) (work out : List ℕ) (r : Progress) (work' : List ℕ) : Type 0 where
   pub end : r.end ≡ stop
   pub kept : take base work' ≡ take base work
-  pub from : stop ≤ room → r.from.0 ≡ start
-  pub last : stop ≤ room → r.last ≡ a
-  pub generators : stop ≤ room →
+  pub from : r.from.0 ≡ start
+  pub last : r.last ≡ a
+  pub generators :
       part rest r.generators base work' ≡ shorter (map (λ u. drop (n - rest) u) (part n (stop - start) (start * n) out)) (part rest all base work)
 
-pub record HeadTaken (n : ℕ) (T : Table) (start : ℕ) (P : List ℕ) (rest rows : ℕ) (prefix : List ℕ) (room a : ℕ)
-    (work : List ℕ) (r : Progress) (work' out' : List ℕ) : Type 0 where
+-- r is the walk after head a, none where out has no room
+pub record HeadTaken (n : ℕ) (T : Table) (start : ℕ) (P : List ℕ) (rest rows : ℕ) (prefix : List ℕ) (a : ℕ)
+    (work out : List ℕ) (r : Option Progress) (work' out' : List ℕ) : Type 0 where
   pub kept : take (rows * suc rest) work' ≡ take (rows * suc rest) work
-  pub end : r.end ≡ fit room (start + length (walk (λ H. slices rest H) T (suc a)).written)
-  pub on : r.end ≤ room → Standing n T start P rest rows prefix room (suc a) work' out' r
+  pub end : option_map (λ progress. progress.end) r ≡ fit n (length out) (start + length (walk (λ H. slices rest H) T (suc a)).written)
+  pub on : IfSome r (λ progress. Standing n T start P rest rows prefix (suc a) work' out' progress)
 
 -- what `append_completed` and `take_head` may count on
-pub record Roomy (n rest rows : ℕ) (work out : List ℕ) (room at : ℕ) : Type 0 where
+pub record Roomy (n rest rows : ℕ) (work out : List ℕ) (at : ℕ) : Type 0 where
   pub variables : suc rest ≤ n
   pub six : n ≤ 6
   pub wide : rows * space (suc rest) ≤ length work
   pub limited : rows ≤ 4096
-  pub holds : room * n ≤ length out
-  pub most : room ≤ 4096
-  pub starts : at ≤ room
+  pub starts : at * n ≤ length out

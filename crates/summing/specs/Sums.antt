@@ -1,61 +1,40 @@
--- The sums over the rows of a table whose marks stand beside it as bytes: what the passes over the rows make, whatever the marks are.
+-- The sums over the rows of a table whose marks stand beside it as bytes: what the pass over the rows makes, whatever the marks are.
 --
---   shares_of s G marks  the shares of the rows of G at s, row r with the marks of byte r
---   signed_shares_of s G marks   the same with rule 8's shares
---   Summable n table marks s   what a pass over the rows asks: the table's limits, s, and a byte of at most six marks a row
---   share_size s d m   the size of rule 8's share, whatever its sign
---   Known s known    what stands in `known`: at d * 7 + m that size, or 0
---   Splits c z plus minus   z is plus less minus, and neither exceeds c times the largest binomial
---   SplitsAll n table marks s plus minus   the sum over all rows is such a difference
+--   shares_of f G marks  the shares of the rows of G, each by f from its degree and its number of marks; row r has the marks of byte r
+--   Summable n table marks   what the pass over the rows asks: the table's limits, and a byte of at most six marks a row
+--   AtRows P         P holds of each degree and number of marks that a row can have
+--   largest_share    the largest binomial, C(306, 6): no share exceeds it
+--   Within b z       z is at most b, whatever its sign
 --   Marked n table marks   byte r has Janet's marks of row r, for each row of the table
 --   Checked n table  what the checks leave: the table's limits, ascending rows, a complete table
-use Rattle.std.specs.Prelude.{◌≡◌, List, [], ◌∷◌, ◌⊎◌, ℕ, ◌+◌, ◌*◌, ◌-◌, ◌≤◌, ◌<◌, leb, length, get_or, ℤ, pos, ◌+ℤ◌, ◌-ℤ◌}
+use Rattle.std.specs.Prelude.{◌≡◌, List, ℕ, ◌≤◌, ◌<◌, length, get_or, ℤ, pos, neg_ℤ, ◌≤ℤ◌}
+use Rattle.std.specs.List.{zip}
 use Rattle.std.specs.Int.Count.{ones}
-use Rattle.binomial.specs.Choose.{choose}
-use Rattle.checks.specs.Tests.{pick}
 use Rattle.terms.specs.Monomials.{Table, row_at, degree}
 use Rattle.terms.specs.Order.{Ascending}
 use Rattle.terms.specs.Rows.{rows}
 use Rattle.terms.specs.TableChecks.{TableAccepted}
+use Rattle.terms.specs.declared.Degree.{Degree}
 use Rattle.division.proofs.Facade.{Complete, marks_of}
-use Rattle.counts.specs.Counts.{share, signed_share}
+use Rattle.counts.specs.Counts.{sumℤ}
 
-unfoldable pub shares_of : ℕ → Table → List ℕ → ℕ
-unfolding share degree
-shares_of s [] marks = 0
-shares_of s (u ∷ G) [] = 0
-shares_of s (u ∷ G) (b ∷ marks) = share s (degree u) (ones b) + shares_of s G marks
+abbrev pub shares_of : (ℕ → ℕ → ℤ) → Table → List ℕ → ℤ
+shares_of f G marks = sumℤ (λ p. f (degree p.0) (ones p.1)) (zip G marks)
 
-unfoldable pub signed_shares_of : ℕ → Table → List ℕ → ℤ
-unfolding signed_share degree
-signed_shares_of s [] marks = pos 0
-signed_shares_of s (u ∷ G) [] = pos 0
-signed_shares_of s (u ∷ G) (b ∷ marks) = signed_share s (degree u) (ones b) +ℤ signed_shares_of s G marks
-
-pub record Summable (n : ℕ) (table marks : List ℕ) (s : ℕ) : Type 0 where
+pub record Summable (n : ℕ) (table marks : List ℕ) : Type 0 where
   pub accepted : TableAccepted n table
-  pub low : s ≤ 300
   pub marked : length (rows n table) ≤ length marks
   pub six_marks : (k : ℕ) → k < length (rows n table) → get_or marks k 0 < 64
 
--- C(s − d + m, m) for d up to s; nothing for d up to s + m, where s − d + m is below m; and behind that C(d − s − 1, m)
-unfoldable pub share_size : ℕ → ℕ → ℕ → ℕ
-unfolding choose
-share_size s d m = pick (leb d s) (choose (s - d + m) m) (pick (leb d (s + m)) 0 (choose (d - s - 1) m))
+abbrev pub AtRows : (Degree → ℕ → Type 0) → Type 0
+AtRows P = (d : Degree) (m : ℕ) → d.0 ≤ 300 → m ≤ 6 → P d m
 
-pub record Known (s : ℕ) (known : List ℕ) : Type 0 where
-  pub long : length known ≡ 301 * 7
-  pub right : (d m : ℕ) → d ≤ 300 → m ≤ 6 → (get_or known (d * 7 + m) 0 ≡ 0) ⊎ (get_or known (d * 7 + m) 0 ≡ share_size s d m)
+abbrev pub largest_share : ℕ
+largest_share = 1085371516236
 
--- 1,085,371,516,236 is C(306, 6)
-pub record Splits (c : ℕ) (z : ℤ) (plus minus : ℕ) : Type 0 where
-  pub difference : pos plus -ℤ pos minus ≡ z
-  pub plus_small : plus ≤ c * 1085371516236
-  pub minus_small : minus ≤ c * 1085371516236
-
--- the shares of all rows, as such a difference
-abbrev pub SplitsAll : ℕ → List ℕ → List ℕ → ℕ → ℕ → ℕ → Type 0
-SplitsAll n table marks s plus minus = Splits (length (rows n table)) (signed_shares_of s (rows n table) marks) plus minus
+pub record Within (b : ℕ) (z : ℤ) : Type 0 where
+  pub low : neg_ℤ (pos b) ≤ℤ z
+  pub high : z ≤ℤ pos b
 
 pub record Checked (n : ℕ) (table : List ℕ) : Type 0 where
   pub accepted : TableAccepted n table

@@ -6,18 +6,20 @@
 --   inside_none            an empty table has an empty ideal
 --   inside_zeros           a row of zeros gives every monomial
 --   same_ideal_refl, -sym, -trans, same_ideal_rows
---   failure_divides, failure_unique   a first failure is 0 exactly where u divides q, and there is one only
-use mathlib.Core.Path.{◌≡◌, sym, ◌∙◌, subst}
+--   failure_unique, failure_test   there is one first failure, and none exactly where u divides q
+use mathlib.Core.Path.{◌≡◌, refl, ap}
+use mathlib.Core.Bool.{not}
 use mathlib.Core.List.Memᴰ
 use mathlib.Core.List.{[]}
-use mathlib.Core.Logic.{inl, inr, by_cases}
-use Prim.Native.Nat.{ℕ, ◌<◌}
-use native.Mathlib.Decide.{dec_le, dec_lt, ℕ_discrete}
+use mathlib.Core.Logic.{by_cases}
+use Rattle.std.specs.Prelude.{Option, None, Some, is_some}
+use Rattle.terms.specs.declared.Variable.{Variable}
+use Prim.Native.Nat.{ℕ}
+use native.Mathlib.Decide.{dec_le, dec_lt}
 use native.Mathlib.Omega.{arith}
-use lib.Dec.{eqb}
 use lib.ListN.{length}
 use Rattle.checks.specs.Tests.{Tests}
-use Rattle.checks.proofs.TestLaws.{decide, tests_as, tests_same, tests_le, tests_eq, tests_each, tests_any}
+use Rattle.checks.proofs.TestLaws.{decide, tests_as, tests_le, tests_each, tests_any, tests_true, tests_false}
 use Rattle.terms.specs.Monomials.{Monomial, Table, ◌!◌, ◌∈◌}
 use Rattle.terms.specs.Ideal.{Divides, Inside, SameIdeal, FirstFailure, divides_test, inside_test}
 use Rattle.terms.proofs.MonomialLaws.{beyond, positive}
@@ -77,24 +79,15 @@ same_ideal_rows n G H f g = record {
 
 -- ---- the first failure
 
-pub failure_divides : {u q : Monomial} {i : ℕ} → FirstFailure u q i → i ≡ 0 → Divides u q
-failure_divides (inl h) e = h.1
-failure_divides {u} {q} (inr h) e = absurd (omega (arith, subst (λ (k : ℕ). q ! k < u ! k) e h.exceeds))
+pub failure_unique : (u q : Monomial) {a b : Option Variable} → FirstFailure u q a → FirstFailure u q b → a ≡ b
+failure_unique u q {a = None} {b = None} h k = refl
+failure_unique u q {a = None} {b = Some j} h k = absurd (omega (arith, k.exceeds, h j.0))
+failure_unique u q {a = Some i} {b = None} h k = absurd (omega (arith, h.exceeds, k i.0))
+failure_unique u q {a = Some i} {b = Some j} h k = ap (λ (v : ℕ). Some (record { 0 = v })) (by_cases (dec_lt i.0 j.0)
+    (λ l. absurd (omega (arith, h.exceeds, k.first i.0 l)))
+    (λ g. by_cases (dec_lt j.0 i.0) (λ l. absurd (omega (arith, k.exceeds, h.first j.0 l))) (λ f. omega arith)))
 
-pub failure_exceeds : {u q : Monomial} {i : ℕ} → FirstFailure u q i → (i ≡ 0 → ⊥) → Divides u q → ⊥
-failure_exceeds (inl h) e d = e h.0
-failure_exceeds {i = i} (inr h) e d = omega (arith, h.exceeds, d i)
-
-pub failure_unique : {u q : Monomial} {i j : ℕ} → FirstFailure u q i → FirstFailure u q j → i ≡ j
-failure_unique (inl h) (inl k) = h.0 ∙ sym k.0
-failure_unique {j = j} (inl h) (inr k) = absurd (omega (arith, k.exceeds, h.1 j))
-failure_unique {i = i} (inr h) (inl k) = absurd (omega (arith, h.exceeds, k.1 i))
-failure_unique {i = i} {j = j} (inr h) (inr k) = by_cases (dec_lt i j)
-    (λ l. absurd (omega (arith, h.exceeds, k.first i l)))
-    (λ g. by_cases (dec_lt j i) (λ l. absurd (omega (arith, k.exceeds, h.first j l))) (λ f. omega arith))
-
--- so the test for 0 is the test of divisibility
-pub failure_test : {u q : Monomial} {i : ℕ} → FirstFailure u q i → eqb i 0 ≡ divides_test u q
-failure_test {u} {q} {i} f = tests_same (eqb i 0) (divides_test u q)
-    (tests_as (tests_eq i 0) (failure_divides f) (λ d. by_cases (ℕ_discrete i 0) (λ e. e) (λ g. absurd (failure_exceeds f g d))))
-    (tests_divides u q)
+-- so there is none exactly where u divides q
+pub failure_test : (u q : Monomial) (a : Option Variable) → FirstFailure u q a → not (is_some a) ≡ divides_test u q
+failure_test u q None d = tests_true (tests_divides u q) d
+failure_test u q (Some i) h = tests_false (tests_divides u q) (λ d. omega (arith, h.exceeds, d i.0))

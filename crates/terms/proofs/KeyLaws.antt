@@ -2,11 +2,13 @@
 --
 --   key_same, key_less     where the numbers are equal the exponents are; the row with the smaller number precedes the other
 --   key_of_six             the number of a row from six bytes: those behind the row are dropped
+--   read_of_six            and six bytes as the machine reads them
 --   Front, front_first, front_next, front_done, front_none   rows told one after the other to ascend, by their numbers
 --   front_more             one row more, by the test of the order
 use mathlib.Core.Path.{◌≡◌, refl, sym, ap, ◌∙◌, subst}
 use mathlib.Core.Bool.{true}
-use mathlib.Core.List.{List}
+use mathlib.Core.List.{List, [], ◌∷◌}
+use Rattle.std.specs.Int.{w64, from_be_bytes}
 use mathlib.Core.Logic.{⊎_elim, by_cases}
 use Prim.Native.Nat.{ℕ, zero, suc, ◌+◌, ◌*◌, ◌-◌, ◌/◌, ◌^◌, ◌≤◌, ◌<◌}
 use native.Mathlib.Nat.{le_of_suc-le-suc, eq-or-lt_of_le, add-mul}
@@ -61,6 +63,10 @@ key_of_six (suc (suc (suc (suc (suc zero))))) p l w a b c d e f s q =
 key_of_six (suc (suc (suc (suc (suc (suc zero)))))) p l w a b c d e f s q =
     omega (arith, s, q.0 (omega arith), q.1 (omega arith), q.2 (omega arith), q.3 (omega arith), q.4 (omega arith), q.5 (omega arith))
 key_of_six (suc (suc (suc (suc (suc (suc (suc n))))))) p l w a b c d e f s q = absurd (omega arith)
+
+-- what the machine reads as a number, high byte first
+pub read_of_six : (a b c d e f : ℕ) → from_be_bytes w64 (0 ∷ 0 ∷ a ∷ b ∷ c ∷ d ∷ e ∷ f ∷ []) ≡ ((((a * 256 + b) * 256 + c) * 256 + d) * 256 + e) * 256 + f
+read_of_six a b c d e f = omega arith
 
 -- ---- row after row
 

@@ -3,46 +3,47 @@
 --   fails_at, never_fails     the two answers of `first_failure`
 --   differs_at, never_differs   two rows that differ at a variable, and that do not
 --   degree_next               the degree from a place on, and from the next
---   largest_none, -larger, -stays, -whole   the largest of the entries so far
+--   largest_none, -next, -whole   the largest of the entries so far
 --   stretch_large, stretch_small   what the largest entry of a stretch says of the stretch
---   any_stops, any_goes_on, any_past   a search for an entry from a place on, stretch by stretch
---   byte_within, byte_past, row_of_six   a row that is read from the bytes of a table
+--   any_stops, any_goes_on   a search for an entry, stretch by stretch
+--   byte_within, byte_past   the bytes of a row
+--   row_of_six   a row that is read from six bytes
 --   breaks                    the turn of `ascends` that ends it
---   refused_1 .. refused_4, passed     the answers of `table_refusal`
-use mathlib.Core.Path.{◌≡◌, refl, sym, ap, ◌∙◌, subst}
+--   refused_1 .. refused_4, passed     the answers of `check`
+use mathlib.Core.Path.{◌≡◌, refl, sym, ◌∙◌, subst}
 use mathlib.Core.Bool.{Bool, true, false, ◌||◌}
 use mathlib.Core.List.Memᴰ
 use mathlib.Core.List.{List, [], ◌∷◌, ◌++◌}
 use mathlib.Core.Logic.{inl, inr, ⊎_elim, by_cases}
-use Prim.Native.Nat.{ℕ, suc, ◌+◌, ◌*◌, ◌-◌, ◌/◌, ◌%◌, ◌≤◌, ◌<◌}
-use native.Mathlib.Nat.{le_of_suc-le-suc}
+use Prim.Native.Nat.{ℕ, suc, max, ◌+◌, ◌/◌, ◌%◌, ◌≤◌, ◌<◌}
+use native.Mathlib.Nat.{le_of_suc-le-suc, max-eq_left, max-eq_right}
 use native.Mathlib.Numerals.{add-one}
 use native.Mathlib.Decide.{dec_le}
 use native.Mathlib.Omega.{arith}
 use lib.Dec.{T, ltb, lit<}
-use lib.ListN.{length, take, drop, get_or, length-drop, drop_of_length-le, take-append-drop}
-use lib.Seq.{take-suc, take_all, drop-drop, get_or-drop, drop-cons, length-take-le, get_or-take}
+use lib.ListN.{length, take, drop, get_or, length-drop, drop_of_length-le}
+use lib.Seq.{take-suc, take_all, get_or-drop, drop-cons, length-take-le, get_or-take}
 use Rattle.checks.specs.Tests.{any}
 use Rattle.checks.proofs.TestLaws.{tests_true, tests_false, tests_lt, tests_any}
 use Rattle.terms.specs.Monomials.{Monomial, Table, ◌!◌, row_at, degree, LargestOf}
-use Rattle.terms.specs.Ideal.{FirstFailure}
+use Rattle.terms.specs.Ideal.{Divides, FailsFirstAt}
 use Rattle.terms.specs.Order.{Precedes, precedes_test, ascending_test}
-use Rattle.terms.specs.Rows.{rows, padded}
+use Rattle.terms.specs.Rows.{padded, as_row}
 use Rattle.checks.specs.Refusals.{Check, refusal, check}
 use Rattle.terms.specs.TableChecks.{NotOneToSix, no_multiple, quotient, table_checks, tests_not_one_to_six, tests_no_multiple, tests_too_many_rows}
 use Rattle.terms.specs.TableChecks.{tests_entry_above50}
 use Rattle.terms.proofs.MonomialLaws.{beyond, same_all}
 use Rattle.terms.proofs.OrderLaws.{precedes_irreflexive, precedes_trans, tests_precedes, tests_ascending}
-use Rattle.terms.proofs.RowsLaws.{length_rows, rows_at, row_within}
+use Rattle.terms.proofs.RowsLaws.{length_rows}
 use Rattle.checks.proofs.RefusalLaws.{refusal_none, refusal_holds, refusal_passes}
 
 -- ---- first_failure
 
-pub fails_at : (u q : Monomial) (i : ℕ) → ((j : ℕ) → j ≤ i → u ! j ≤ q ! j) → q ! suc i < u ! suc i → FirstFailure u q (i + 1)
-fails_at u q i b h = rw add-one (inr (record { exceeds = h; first = λ j l. b j (le_of_suc-le-suc l) }))
+pub fails_at : (u q : Monomial) (i : ℕ) → ((j : ℕ) → j ≤ i → u ! j ≤ q ! j) → q ! suc i < u ! suc i → FailsFirstAt u q (i + 1)
+fails_at u q i b h = rw add-one (record { exceeds = h; first = λ j l. b j (le_of_suc-le-suc l) })
 
-pub never_fails : (u q : Monomial) (n : ℕ) → length u ≤ n → ((j : ℕ) → j ≤ n → u ! j ≤ q ! j) → FirstFailure u q 0
-never_fails u q n s b = inl (refl, λ i. by_cases (dec_le i n) (b i) (λ g. omega (arith, beyond u i (omega arith))))
+pub never_fails : (u q : Monomial) (n : ℕ) → length u ≤ n → ((j : ℕ) → j ≤ n → u ! j ≤ q ! j) → Divides u q
+never_fails u q n s b i = by_cases (dec_le i n) (b i) (λ g. omega (arith, beyond u i (omega arith)))
 
 -- ---- precedes_next
 
@@ -79,19 +80,19 @@ module _ (l : List ℕ) (i a : ℕ) (h : i < length l) (g : LargestOf (take i l)
   one_more : take (i + 1) l ≡ take i l ++ (get_or l i 0 ∷ [])
   one_more = rw add-one (take-suc l i 0 h)
 
-  -- the entry at hand is above all before it
-  pub largest_larger : a < get_or l i 0 → LargestOf (take (i + 1) l) (get_or l i 0)
-  largest_larger o = rw one_more (record {
-    bound = λ e m. ⊎_elim (λ k. omega (arith, g.bound e k)) (λ k. omega (arith, Memᴰ.eq_of_singleton k)) (Memᴰ.append_cases (take i l) m);
-    reached = inr (Memᴰ.append_right (take i l) (Memᴰ.head refl));
-  })
-
-  -- or it is not
-  pub largest_stays : get_or l i 0 ≤ a → LargestOf (take (i + 1) l) a
-  largest_stays o = rw one_more (record {
-    bound = λ e m. ⊎_elim (g.bound e) (λ k. omega (arith, Memᴰ.eq_of_singleton k)) (Memᴰ.append_cases (take i l) m);
-    reached = ⊎_elim inl (λ k. inr (Memᴰ.append_left (get_or l i 0 ∷ []) k)) g.reached;
-  })
+  -- the entry at hand is above all before it, or it is not
+  pub largest_next : LargestOf (take (i + 1) l) (max a (get_or l i 0))
+  largest_next = rw one_more (by_cases (dec_le (get_or l i 0) a)
+      (λ o. rw (max-eq_left o) (record {
+        bound = λ e m. ⊎_elim (g.bound e) (λ k. omega (arith, Memᴰ.eq_of_singleton k)) (Memᴰ.append_cases (take i l) m);
+        reached = ⊎_elim inl (λ k. inr (Memᴰ.append_left (get_or l i 0 ∷ []) k)) g.reached;
+      }))
+      (λ o.
+      let larger : a ≤ get_or l i 0 = omega (arith, o) in
+      rw (max-eq_right larger) (record {
+        bound = λ e m. ⊎_elim (λ k. omega (arith, o, g.bound e k)) (λ k. omega (arith, Memᴰ.eq_of_singleton k)) (Memᴰ.append_cases (take i l) m);
+        reached = inr (Memᴰ.append_right (take i l) (Memᴰ.head refl));
+      })))
 
 pub largest_whole : (l : List ℕ) (i a : ℕ) → length l ≤ i → LargestOf (take i l) a → LargestOf l a
 largest_whole l i a h g = rw (take_all i l h) at g
@@ -112,25 +113,15 @@ any_append f (x ∷ l) m = go (f x) (any_append f l m)
     go true e = refl
     go false e = e
 
--- a search from a place on goes by the stretch to another place, and then from there on
-module _ (f : ℕ → Bool) (l : List ℕ) (from end : ℕ) (h : from ≤ end) where
-  parts : any f (drop from l) ≡ any f (take (end - from) (drop from l)) || any f (drop end l)
-  parts =
-      let e : from + (end - from) ≡ end = omega arith in
-      ap (any f) (sym (take-append-drop (end - from) (drop from l)))
-      ∙ any_append f (take (end - from) (drop from l)) (drop (end - from) (drop from l))
-      ∙ ap (λ (k : List ℕ). any f (take (end - from) (drop from l)) || any f k) (drop-drop (end - from) from l ∙ ap (λ (k : ℕ). drop k l) e)
+-- a search goes stretch by stretch: it stops in this one, or goes on in the rest
+module _ (f : ℕ → Bool) (all stretch rest : List ℕ) (parts : all ≡ stretch ++ rest) where
+  pub any_stops : true ≡ any f stretch → true ≡ any f all
+  any_stops e = rw (parts, any_append f stretch rest, ← e) refl
 
-  pub any_stops : true ≡ any f (take (end - from) (drop from l)) → any f (drop from l) ≡ true
-  any_stops e = parts ∙ rw (← e)
+  pub any_goes_on : false ≡ any f stretch → any f all ≡ any f rest
+  any_goes_on e = rw (parts, any_append f stretch rest, ← e) refl
 
-  pub any_goes_on : false ≡ any f (take (end - from) (drop from l)) → any f (drop from l) ≡ any f (drop end l)
-  any_goes_on e = parts ∙ rw (← e)
-
-pub any_past : (f : ℕ → Bool) (l : List ℕ) (i : ℕ) → length l ≤ i → any f (drop i l) ≡ false
-any_past f l i h = rw (drop_of_length-le l h)
-
--- ---- row_at
+-- ---- of_bytes
 
 pub byte_within : (n base place : ℕ) (t : List ℕ) → place < n → get_or t (base + place) 0 ≡ take n (drop base t) ! suc place
 byte_within n base place t h = sym (get_or-take n (drop base t) place 0 h ∙ get_or-drop base t place 0)
@@ -151,19 +142,17 @@ padded_six (a ∷ b ∷ c ∷ d ∷ e ∷ f ∷ []) h = refl
 padded_six (a ∷ b ∷ c ∷ d ∷ e ∷ f ∷ g ∷ u) h = absurd (omega arith)
 
 -- so the bytes that were read, one for each of six places, are the row
-pub row_of_six : (n : ℕ) (t : List ℕ) (k : ℕ) → n ≤ 6 → k < length (rows n t) → {a b c d e f : ℕ}
-    → a ≡ take n (drop (k * n) t) ! 1 → b ≡ take n (drop (k * n) t) ! 2 → c ≡ take n (drop (k * n) t) ! 3
-    → d ≡ take n (drop (k * n) t) ! 4 → e ≡ take n (drop (k * n) t) ! 5 → f ≡ take n (drop (k * n) t) ! 6
-    → a ∷ b ∷ c ∷ d ∷ e ∷ f ∷ [] ≡ padded (row_at (rows n t) k)
-row_of_six n t k l h p q r s x y = rw (p, q, r, s, x, y, rows_at n t k h)
-    (sym (padded_six (take n (drop (k * n) t)) (omega (arith, length-take-le n (drop (k * n) t) (rw length-drop (omega (arith, row_within n t k h)))))))
+pub row_of_six : (u : Monomial) → length u ≤ 6 → {a b c d e f : ℕ} → a ≡ u ! 1 → b ≡ u ! 2 → c ≡ u ! 3 → d ≡ u ! 4 → e ≡ u ! 5 → f ≡ u ! 6
+    → record { exponents = a ∷ b ∷ c ∷ d ∷ e ∷ f ∷ []; n = length u } ≡ as_row (length u) u
+unfolding as_row
+row_of_six u l h p q r s x = rw (h, p, q, r, s, x, padded_six u l) refl
 
 -- ---- ascends
 
 pub breaks : (G : Table) (r : ℕ) → suc r < length G → false ≡ precedes_test (row_at G r) (row_at G (suc r)) → false ≡ ascending_test G
 breaks G r l e = tests_false (tests_ascending G) (λ a. absurd (subst T (sym e) ((tests_precedes (row_at G r) (row_at G (suc r))).complete (a r l))))
 
--- ---- table_refusal
+-- ---- check
 
 module _ (n : ℕ) (t : List ℕ) where
   abbrev later2 : List Check

@@ -4,11 +4,13 @@
 --   Inside G q       q is in the ideal of G: some row of G divides it
 --   SameIdeal n G H  G and H have the same ideal among the monomials of n variables
 --   FailsFirstAt u q i   u exceeds q at i and at no variable before it
---   FirstFailure u q i   i is 0 where u divides q, and otherwise the first variable at which u exceeds q
+--   FirstFailure u q i   i is none where u divides q, and otherwise the first variable at which u exceeds q
 --
 -- With the tests `divides_test`, `inside_test`.
-use Rattle.std.specs.Prelude.{◌≡◌, Bool, ◌⊎◌, ℕ, ◌≤◌, ◌<◌, leb, length}
+use Rattle.std.specs.Prelude.{◌≡◌, Bool, ℕ, ◌≤◌, ◌<◌, leb, length}
+use Rattle.std.specs.Prelude.{Option, Some, None}
 use Rattle.checks.specs.Tests.{each, any}
+use Rattle.terms.specs.declared.Variable.{Variable}
 use Rattle.terms.specs.Monomials.{Monomial, Table, ◌!◌, ◌∈◌}
 
 abbrev pub Divides : Monomial → Monomial → Type 0
@@ -28,8 +30,9 @@ pub record FailsFirstAt (u q : Monomial) (i : ℕ) : Type 0 where
   pub exceeds : q ! i < u ! i
   pub first : (j : ℕ) → j < i → u ! j ≤ q ! j
 
-abbrev pub FirstFailure : Monomial → Monomial → ℕ → Type 0
-FirstFailure u q i = ((i ≡ 0) × Divides u q) ⊎ FailsFirstAt u q i
+abbrev pub FirstFailure : Monomial → Monomial → Option Variable → Type 0
+FirstFailure u q None = Divides u q
+FirstFailure u q (Some i) = FailsFirstAt u q i.0
 
 unfoldable pub divides_test : Monomial → Monomial → Bool
 divides_test u q = each (length u) (λ i. leb (u ! i) (q ! i))

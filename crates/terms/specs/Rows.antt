@@ -1,6 +1,7 @@
 -- A table as bytes: rows of n bytes end to end.
 --
 --   rows n bytes     the table that the bytes are: the one place where bytes become rows
+--   rows_of t        the table that a flat table is
 --   first_rows n k bytes  its first k rows
 --   flat G           the rows of G end to end: the one place where rows become bytes
 --   padded u         u with zeros for the exponents that it lacks of six
@@ -11,6 +12,7 @@ use Rattle.std.specs.Prelude.{List, [], ◌∷◌, ◌++◌, ℕ, zero, suc, ◌
 use Rattle.std.proofs.Math.Seq.{paste}
 use Rattle.terms.specs.Monomials.{Monomial, Table}
 use Rattle.terms.specs.declared.Row.{Row}
+use Rattle.terms.specs.declared.FlatTable.{FlatTable}
 
 unfoldable pub first_rows : ℕ → ℕ → List ℕ → Table
 first_rows n zero bytes = []
@@ -19,6 +21,9 @@ first_rows n (suc k) bytes = take n bytes ∷ first_rows n k (drop n bytes)
 unfoldable pub rows : ℕ → List ℕ → Table
 unfolding first_rows
 rows n bytes = first_rows n (length bytes / n) bytes
+
+abbrev pub rows_of : FlatTable → Table
+rows_of t = rows t.n t.bytes.now
 
 unfoldable pub flat : Table → List ℕ
 flat [] = []

@@ -7,10 +7,13 @@ ghost use Rattle.checks.specs.Tests.{any};
 ghost use Rattle.terms.specs.Monomials.{◌!◌, row_at, LargestOf};
 ghost use Rattle.terms.specs.Ideal.{FirstFailure, divides_test};
 ghost use Rattle.terms.specs.Order.{precedes_test, ascending_test};
-ghost use Rattle.terms.specs.Rows.{rows, as_row, put_row};
+ghost use Rattle.terms.specs.Rows.{rows_of, as_row, put_row};
 ghost use Rattle.terms.specs.Keys.{row_key, FrontAscends};
 ghost use Rattle.checks.specs.Refusals.{refusal};
+ghost use Rattle.checks.specs.Outcomes.{number_of};
 ghost use Rattle.terms.specs.TableChecks.{table_checks};
+
+use checks::Refusal;
 
 // The most rows that a table may have, and the largest entry.
 pub const MOST_ROWS: usize = 4096;
@@ -25,155 +28,109 @@ pub struct Row {
 }
 
 // The number of a variable, from 1; 0 is no variable.
-#[derive(Clone, Copy)]
+#[derive(Clone, Copy, PartialEq, Eq, PartialOrd, Ord)]
 pub struct Variable(pub usize);
 
 // A total degree.
-#[derive(Clone, Copy)]
+#[derive(Clone, Copy, PartialEq, Eq, PartialOrd, Ord)]
 pub struct Degree(pub usize);
 
 // The number of a row, from 0.
-#[derive(Clone, Copy)]
+#[derive(Clone, Copy, PartialEq, Eq, PartialOrd, Ord)]
 pub struct RowNumber(pub usize);
 
-// The byte at a place of the row of n bytes from `base` on, 0 past its end.
-fn byte_or_zero(n: usize, table: &[u8], base: usize, place: usize) -> u8
-    requires { base + n ≤ length table.now }
-    ensures { result ≡ take n (drop base table.now) ! suc place }
+// The exponent at a place of a row, 0 past its end.
+fn exponent_or_zero(row: &[u8], place: usize) -> u8
+    ensures { result ≡ row.now ! suc place }
 {
-    if place < n {
-        return table[base + place];
+    row.get(place).copied().unwrap_or(0)
+}
+
+impl Row {
+    // The row with these exponents. They are read one by one without a loop, since the compiler makes of a loop a call that copies memory, which
+    // costs more.
+    pub fn of_bytes(bytes: &[u8]) -> Row
+        requires { length bytes.now ≤ 6 }
+        ensures { result ≡ as_row (length bytes.now) bytes.now }
+    {
+        let exponents = [
+            exponent_or_zero(bytes, 0),
+            exponent_or_zero(bytes, 1),
+            exponent_or_zero(bytes, 2),
+            exponent_or_zero(bytes, 3),
+            exponent_or_zero(bytes, 4),
+            exponent_or_zero(bytes, 5),
+        ];
+        Row {
+            exponents,
+            n: bytes.len(),
+        }
     }
-    0
-}
-
-// Row k of a table. It is read byte by byte without a loop, since the compiler makes of a loop a call that copies memory, which costs more.
-pub fn row_at(n: usize, table: &[u8], k: RowNumber) -> Row
-    requires { (n ≤ 6) × (k.0 < length (rows n table.now)) }
-    ensures { result ≡ as_row n (row_at (rows n table.now) k.0) }
-{
-    let number = k.0;
-    let base = number * n;
-    let exponents = [
-        byte_or_zero(n, table, base, 0),
-        byte_or_zero(n, table, base, 1),
-        byte_or_zero(n, table, base, 2),
-        byte_or_zero(n, table, base, 3),
-        byte_or_zero(n, table, base, 4),
-        byte_or_zero(n, table, base, 5),
-    ];
-    Row { exponents, n }
-}
-
-// The exponent of row k at variable i.
-pub fn exponent(n: usize, table: &[u8], k: RowNumber, i: Variable) -> u8
-    requires { (k.0 < length (rows n table.now)) × (0 < i.0) × (i.0 ≤ n) }
-    ensures { result ≡ row_at (rows n table.now) k.0 ! i.0 }
-{
-    let number = k.0;
-    let variable = i.0;
-    table[number * n + (variable - 1)]
 }
 
 // Row k of a lent buffer becomes r; the other bytes stay.
+#[tactic(auto, unfolding(crate::specs::Rows::put_row))]
 pub fn put_row(n: usize, buffer: &mut [u8], k: RowNumber, r: Row)
     requires { (n ≤ 6) × (k.0 * n + n ≤ length buffer.old) }
     ensures { buffer.new ≡ put_row n k.0 r.exponents buffer.old }
 {
-    let number = k.0;
-    let base = number * n;
-    let exponents = r.exponents;
-    for i in 0..n {
-        buffer[base + i] = exponents[i];
-    }
+    let base = k.0 * n;
+    buffer[base..base + n].copy_from_slice(&r.exponents[..n]);
 }
 
-// The first variable at which u exceeds q, 0 where u divides q.
-fn first_failure(u: Row, q: Row) -> Variable
-    ensures { FirstFailure u.exponents q.exponents result.0 }
+// The first variable at which u exceeds q, none where u divides q.
+fn first_failure(u: Row, q: Row) -> Option<Variable>
+    ensures { FirstFailure u.exponents q.exponents result }
 {
-    let mut i = 0;
-    while i < 6 {
+    for i in 0..6 {
         if u.exponents[i] > q.exponents[i] {
-            return Variable(i + 1);
+            return Some(Variable(i + 1));
         }
-        i += 1;
     }
-    Variable(0)
+    None
 }
 
 // Whether no exponent of u exceeds that of q (rule 1).
 pub fn divides(u: Row, q: Row) -> bool
     ensures { result ≡ divides_test u.exponents q.exponents }
 {
-    let failure = first_failure(u, q);
-    failure.0 == 0
-}
-
-// Whether row k precedes the next row.
-fn precedes_next(n: usize, table: &[u8], k: RowNumber) -> bool
-    requires { suc k.0 < length (rows n table.now) }
-    ensures { result ≡ precedes_test (row_at (rows n table.now) k.0) (row_at (rows n table.now) (suc k.0)) }
-{
-    let number = k.0;
-    let base = number * n;
-    let mut i = 0;
-    while i < n {
-        let a = table[base + i];
-        let b = table[base + n + i];
-        if a < b {
-            return true;
-        }
-        if b < a {
-            return false;
-        }
-        i += 1;
-    }
-    false
-}
-
-// The byte at a place, as a digit.
-fn digit_at(table: &[u8], at: usize) -> usize
-    requires { at < length table.now }
-    ensures { (result ≡ get_or table.now at 0) × (result < 256) }
-{
-    table[at] as usize
+    first_failure(u, q).is_none()
 }
 
 // The row from a place on as a number, its exponents being the digits to base 256. Six bytes are read whatever n is, without a loop, and those
 // behind the row are dropped.
-fn key_at(n: usize, table: &[u8], at: usize) -> usize
-    requires { (0 < n) × (n ≤ 6) × (at + 6 ≤ length table.now) }
-    ensures { result ≡ row_key (take n (drop at table.now)) n }
+fn key_at(n: usize, bytes: &[u8], at: usize) -> usize
+    requires { (0 < n) × (n ≤ 6) × (at + 6 ≤ length bytes.now) }
+    ensures { result ≡ row_key (take n (drop at bytes.now)) n }
 {
-    let a = digit_at(table, at);
-    let b = digit_at(table, at + 1);
-    let c = digit_at(table, at + 2);
-    let d = digit_at(table, at + 3);
-    let e = digit_at(table, at + 4);
-    let f = digit_at(table, at + 5);
-    let six = ((((a * 256 + b) * 256 + c) * 256 + d) * 256 + e) * 256 + f;
+    let six = usize::from_be_bytes([
+        0,
+        0,
+        bytes[at],
+        bytes[at + 1],
+        bytes[at + 2],
+        bytes[at + 3],
+        bytes[at + 4],
+        bytes[at + 5],
+    ]);
     six >> (48 - 8 * n)
 }
 
 // So many rows from the first on ascend strictly, by their numbers. It stops at the first pair that does not, and where six bytes are no longer
 // there: near the table's end.
-fn ascending_front(n: usize, table: &[u8]) -> usize
+fn ascending_front(n: usize, bytes: &[u8]) -> usize
     requires { 0 < n }
-    ensures { FrontAscends n table.now result }
+    ensures { FrontAscends n bytes.now result }
 {
-    if n > 6 {
+    if n > 6 || bytes.len() < 6 {
         return 1;
     }
-    if table.len() < 6 {
-        return 1;
-    }
-    let last = table.len() - 6;
-    let mut before = key_at(n, table, 0);
+    let last = bytes.len() - 6;
+    let mut before = key_at(n, bytes, 0);
     let mut k = 1;
     let mut at = n;
     while at <= last {
-        let key = key_at(n, table, at);
+        let key = key_at(n, bytes, at);
         if key <= before {
             return k;
         }
@@ -184,34 +141,13 @@ fn ascending_front(n: usize, table: &[u8]) -> usize
     k
 }
 
-// Whether the rows ascend strictly. Most are told by their numbers, the last few byte by byte.
-pub fn ascends(n: usize, table: &[u8]) -> bool
-    requires { 0 < n }
-    ensures { result ≡ ascending_test (rows n table.now) }
-{
-    let count = table.len() / n;
-    let mut k = ascending_front(n, table);
-    while k < count {
-        if !precedes_next(n, table, RowNumber(k - 1)) {
-            return false;
-        }
-        k += 1;
-    }
-    true
-}
-
 // The largest of some bytes, 0 for none. It looks at each of them and leaves nowhere, so that the compiler can take many at a time.
 fn largest_of(bytes: &[u8]) -> u8
     ensures { LargestOf bytes.now result }
 {
     let mut largest: u8 = 0;
-    let mut i = 0;
-    while i < bytes.len() {
-        let entry = bytes[i];
-        if largest < entry {
-            largest = entry;
-        }
-        i += 1;
+    for entry in bytes {
+        largest = largest.max(*entry);
     }
     largest
 }
@@ -219,50 +155,111 @@ fn largest_of(bytes: &[u8]) -> u8
 // The bytes that `has_large_entry` looks at before it asks.
 const STRETCH: usize = 256;
 
-// Where the stretch from a byte on ends.
-fn stretch_end(from: usize, size: usize) -> usize
-    requires { from < size }
-    ensures { (from < result) × (result ≤ size) }
-{
-    if size - from <= STRETCH {
-        return size;
-    }
-    from + STRETCH
-}
-
 // Whether some entry is above 50.
 pub fn has_large_entry(bytes: &[u8]) -> bool
     ensures { result ≡ any (λ e. ltb 50 e) bytes.now }
 {
-    let mut from = 0;
-    while from < bytes.len() {
-        let end = stretch_end(from, bytes.len());
-        if LARGEST_ENTRY < largest_of(&bytes[from..end]) {
+    for stretch in bytes.chunks(STRETCH) {
+        if LARGEST_ENTRY < largest_of(stretch) {
             return true;
         }
-        from = end;
     }
     false
 }
 
-// The number of the first of the checks 1 to 4 that refuses the table, 0 where none does.
-pub fn table_refusal(n: usize, table: &[u8]) -> u8
-    ensures { result ≡ refusal (table_checks n table.now) }
-{
-    if n == 0 {
-        return 1;
+// A table as bytes end to end, n to a row. Nothing is known of it until it is checked.
+#[derive(Clone, Copy)]
+pub struct FlatTable<'a> {
+    pub n: usize,
+    pub bytes: &'a [u8],
+}
+
+impl<'a> FlatTable<'a> {
+    // How many rows it has.
+    pub fn row_count(self) -> usize
+        requires { 0 < self.n }
+        ensures { result ≡ length (rows_of self.entry) }
+    {
+        self.bytes.len() / self.n
     }
-    if 6 < n {
-        return 1;
+
+    // The bytes of row k: its exponents.
+    #[tactic(auto, using(crate::proofs::RowsLaws::row_within, crate::proofs::RowsLaws::rows_at))]
+    pub fn row_bytes(self, k: RowNumber) -> &'a [u8]
+        requires { k.0 < length (rows_of self) }
+        ensures { result.now ≡ row_at (rows_of self.entry) k.0 }
+    {
+        let base = k.0 * self.n;
+        &self.bytes[base..base + self.n]
     }
-    if table.len() % n != 0 {
-        return 2;
+
+    // Row k.
+    #[tactic(auto, using(crate::proofs::RowsLaws::row_size))]
+    pub fn row_at(self, k: RowNumber) -> Row
+        requires { (self.n ≤ 6) × (k.0 < length (rows_of self)) }
+        ensures { result ≡ as_row self.entry.n (row_at (rows_of self.entry) k.0) }
+    {
+        Row::of_bytes(self.row_bytes(k))
     }
-    if MOST_ROWS < table.len() / n {
-        return 3;
+
+    // The exponent of row k at variable i.
+    #[tactic(auto, using(crate::proofs::RowsLaws::row_within))]
+    pub fn exponent(self, k: RowNumber, i: Variable) -> u8
+        requires { (k.0 < length (rows_of self)) × (0 < i.0) × (i.0 ≤ self.n) }
+        ensures { result ≡ row_at (rows_of self.entry) k.0 ! i.0 }
+    {
+        self.bytes[k.0 * self.n + (i.0 - 1)]
     }
-    if has_large_entry(table) {
-        return 4;
+
+    // Whether row k precedes the next row.
+    #[tactic(auto, using(crate::proofs::RowsLaws::two_rows_within))]
+    fn precedes_next(self, k: RowNumber) -> bool
+        requires { suc k.0 < length (rows_of self) }
+        ensures { result ≡ precedes_test (row_at (rows_of self.entry) k.0) (row_at (rows_of self.entry) (suc k.0)) }
+    {
+        let base = k.0 * self.n;
+        for i in 0..self.n {
+            let a = self.bytes[base + i];
+            let b = self.bytes[base + self.n + i];
+            if a < b {
+                return true;
+            }
+            if b < a {
+                return false;
+            }
+        }
+        false
     }
-    0
+
+    // Whether the rows ascend strictly. Most are told by their numbers, the last few byte by byte.
+    pub fn ascends(self) -> bool
+        requires { 0 < self.n }
+        ensures { result ≡ ascending_test (rows_of self.entry) }
+    {
+        for k in ascending_front(self.n, self.bytes)..self.row_count() {
+            if !self.precedes_next(RowNumber(k - 1)) {
+                return false;
+            }
+        }
+        true
+    }
+
+    // The checks 1 to 4.
+    pub fn check(self) -> Result<(), Refusal>
+        ensures { number_of result ≡ refusal (table_checks self.entry.n self.entry.bytes.now) }
+    {
+        if self.n == 0 || 6 < self.n {
+            return Err(Refusal::Variables);
+        }
+        if self.bytes.len() % self.n != 0 {
+            return Err(Refusal::Length);
+        }
+        if MOST_ROWS < self.row_count() {
+            return Err(Refusal::Rows);
+        }
+        if has_large_entry(self.bytes) {
+            return Err(Refusal::Entry);
+        }
+        Ok(())
+    }
 }

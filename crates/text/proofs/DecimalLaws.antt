@@ -3,7 +3,8 @@
 --   decimal_one, decimal_more   a number below 10 is one digit; another is the number of its tens and then one digit
 --   decimal_value, decimal_injective   read as digits it is the number, so the digits tell numbers apart
 --   decimal_length              a number below 10 ^ (k + 1) has at most k + 1 digits
---   number_one, number_more     so a number is written digit by digit
+--   library_decimal             the library's digits of a number that a machine word holds are the same
+--   number_length, number_wrote   so its text, copied to a place, is the number written there
 use mathlib.Core.Path.{◌≡◌, refl, sym, ap, ◌∙◌}
 use mathlib.Core.List.{List, [], ◌∷◌, ◌++◌}
 use mathlib.Core.Logic.{by_cases}
@@ -12,9 +13,13 @@ use native.Mathlib.Decide.{dec_lt}
 use native.Mathlib.Nat.{div-eq_of_lt, mod-eq_of_lt, not-suc-le-zero, pow-suc}
 use native.Mathlib.Omega.{arith}
 use lib.ListN.{length, length-append}
+use lib.Seq.{paste}
 use Rattle.text.specs.Decimal.{digit, digits_of, decimal, value_from}
+use Rattle.std.specs.Fmt
+use Rattle.std.proofs.lemmas.Fmt.{decimal_by_steps}
 use Rattle.writing.specs.Written.{Wrote}
-use Rattle.writing.proofs.WrittenLaws.{wrote_as, wrote_then}
+use Rattle.writing.proofs.WrittenLaws.{wrote_as}
+use Rattle.writing.proofs.CopyLaws.{pasted_wrote}
 
 -- tens are fewer than the number
 tens_less : (x : ℕ) → suc x / 10 ≤ x
@@ -89,11 +94,16 @@ decimal_length zero x h = omega (arith, decimal_one_length x h)
 decimal_length (suc k) x h = by_cases (dec_lt x 10) (λ l. omega (arith, decimal_one_length x l))
     (λ g. omega (arith, decimal_more_length x (omega arith), decimal_length k (x / 10) (omega (arith, pow-suc 10 (suc k)))))
 
--- ---- the answers of `put_number`
+-- ---- the library's decimals
 
-pub number_one : {o : List ℕ} {at x r : ℕ} {a : List ℕ} → x < 10 → Wrote o at (digit x ∷ []) r a → Wrote o at (decimal x) r a
-number_one {x = x} h w = wrote_as w (sym (decimal_one x h))
+-- the library's digits of a number that a machine word holds are ours
+pub library_decimal : (x : ℕ) → x < 2 ^ 64 → Fmt.decimal x ≡ decimal x
+library_decimal = decimal_by_steps (λ (x : ℕ) (l : List ℕ). l ≡ decimal x) (λ x h. sym (decimal_one x h))
+    (λ x l h e. rw e (sym (decimal_more x h)))
 
-pub number_more : {o : List ℕ} {at x : ℕ} {p : ℕ} {o₁ : List ℕ} {q : ℕ} {o₂ : List ℕ} → 10 ≤ x → at ≤ length o → Wrote o at (decimal (x / 10)) p o₁
-    → Wrote o₁ p (digit (x % 10) ∷ []) q o₂ → Wrote o at (decimal x) q o₂
-number_more {x = x} h l v w = wrote_as (wrote_then v l w) (sym (decimal_more x h))
+pub number_length : (x : ℕ) {text : List ℕ} → x < 2 ^ 64 → text ≡ Fmt.decimal x → length text ≡ length (decimal x)
+number_length x h t = ap length (t ∙ library_decimal x h)
+
+pub number_wrote : {o a text : List ℕ} {at x : ℕ} → x < 2 ^ 64 → text ≡ Fmt.decimal x → a ≡ paste o at text (length text)
+    → Wrote o at (decimal x) (at + length text) a
+number_wrote {x = x} h t e = wrote_as (pasted_wrote e) (t ∙ library_decimal x h)

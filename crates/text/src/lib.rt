@@ -5,18 +5,18 @@ ghost use Rattle.std.specs.Prelude.{◌+◌, ◌≤◌, length};
 ghost use Rattle.text.specs.Decimal.{decimal, field};
 ghost use Rattle.writing.specs.Written.{Wrote};
 
-use writing::put_byte;
+use itoa::Buffer;
+use writing::{copy_from, put_byte};
 
 // Writes a number in decimal digits.
 pub fn put_number(out: &mut [u8], at: usize, x: usize) -> usize
     requires { at + length (decimal x) ≤ length out.old }
     ensures { Wrote out.old at (decimal x) result out.new }
 {
-    if x < 10 {
-        return put_byte(out, at, (48 + x) as u8);
-    }
-    let next = put_number(out, at, x / 10);
-    put_byte(out, next, (48 + x % 10) as u8)
+    let mut buffer = Buffer::new();
+    let digits = buffer.format(x).as_bytes();
+    copy_from(out, at, digits, 0, digits.len());
+    at + digits.len()
 }
 
 // Writes one space and a number.

@@ -19,11 +19,7 @@ pub fn copy_within(bytes: &mut [u8], from: usize, to: usize, count: usize)
     requires { (from + count ≤ to) × (to + count ≤ length bytes.old) }
     ensures { bytes.new ≡ paste bytes.old to (drop from bytes.old) count }
 {
-    let mut i = 0;
-    while i < count {
-        bytes[to + i] = bytes[from + i];
-        i += 1;
-    }
+    bytes.copy_within(from..from + count, to);
 }
 
 // Copies count bytes of another array, from place `from` on, to place `to`.
@@ -31,9 +27,5 @@ pub fn copy_from(bytes: &mut [u8], to: usize, other: &[u8], from: usize, count: 
     requires { (to + count ≤ length bytes.old) × (from + count ≤ length other.now) }
     ensures { bytes.new ≡ paste bytes.old to (drop from other.now) count }
 {
-    let mut i = 0;
-    while i < count {
-        bytes[to + i] = other[from + i];
-        i += 1;
-    }
+    bytes[to..to + count].copy_from_slice(&other[from..from + count]);
 }

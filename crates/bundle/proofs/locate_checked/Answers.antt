@@ -1,50 +1,24 @@
 -- The bundle is refused, it has no such table, or the header says where the table stands.
-use Rattle.bundle.proofs.AcceptedLaws.{accepted_bundle}
-use Rattle.bundle.proofs.CheckLaws.{Framed, reads_rows, reads_offset}
-use Rattle.bundle.proofs.ReadLaws.{locate_refused, locate_none, locate_opens}
-use Rattle.bundle.specs.Checks.{bundle_checks}
-use Rattle.checks.specs.Refusals.{refusal}
+use borrow.Author.Rules.{rules}
 use native.Mathlib.Omega.{arith}
-use mathlib.Core.Path.{◌≡◌, sym, ◌∙◌}
+use mathlib.Core.Path.{◌≡◌, sym}
+use Rattle.std.specs.Prelude.{Err}
+use Rattle.checks.specs.Refusals.{refusal}
+use Rattle.bundle.specs.Checks.{bundle_checks}
+use Rattle.bundle.proofs.ReadLaws.{locate_refuses, locate_none, locate_opens}
 use Rattle.bundle.proofs.locate_checked.Goals as goal
 
-pub returns-then-refused-ne0 : goal.returns-then-refused-ne0
-returns-then-refused-ne0 c = locate_refused c.args.bundle.now _ _ c.requires c.if-refused-ne0.true
+pub returns-in_err-checked : goal.returns-in_err-checked
+returns-in_err-checked c =
+    let is : c.from_residual.result ≡ Err c.in_err-checked.field-0.0 = search rules in
+    rw is (locate_refuses c.args.bundle.now _ _ (rw c.in_err-checked.was at c.requires))
 
-pub byte_at-requires : goal.byte_at-requires
-byte_at-requires c =
-    let passed : refusal (bundle_checks c.args.bundle.now) ≡ 0 = sym c.requires ∙ c.if-refused-ne0.false in
-    let frame : Framed c.args.bundle.now = (accepted_bundle c.args.bundle.now passed).layout.frame in
-    omega (arith, frame.long)
-
-pub returns-then-byte_at-j : goal.returns-then-byte_at-j
-returns-then-byte_at-j c =
-    let passed : refusal (bundle_checks c.args.bundle.now) ≡ 0 = sym c.requires ∙ c.if-refused-ne0.false in
-    locate_none c.args.bundle.now _ passed (omega (arith, c.byte_at.ensures.0))
-
-pub byte_at-n-requires : goal.byte_at-n-requires
-byte_at-n-requires c =
-    let passed : refusal (bundle_checks c.args.bundle.now) ≡ 0 = sym c.requires ∙ c.if-refused-ne0.false in
-    let frame : Framed c.args.bundle.now = (accepted_bundle c.args.bundle.now passed).layout.frame in
-    omega (arith, frame.long)
-
-pub read16-count-requires : goal.read16-count-requires
-read16-count-requires c =
-    let passed : refusal (bundle_checks c.args.bundle.now) ≡ 0 = sym c.requires ∙ c.if-refused-ne0.false in
-    let frame : Framed c.args.bundle.now = (accepted_bundle c.args.bundle.now passed).layout.frame in
-    omega (arith, frame.header, c.byte_at.ensures.0)
-
-pub read16-place-requires : goal.read16-place-requires
-read16-place-requires c =
-    let passed : refusal (bundle_checks c.args.bundle.now) ≡ 0 = sym c.requires ∙ c.if-refused-ne0.false in
-    let frame : Framed c.args.bundle.now = (accepted_bundle c.args.bundle.now passed).layout.frame in
-    omega (arith, frame.header, c.byte_at.ensures.0)
+pub returns-then-from-j : goal.returns-then-from-j
+returns-then-from-j c =
+    let passed : 0 ≡ refusal (bundle_checks c.args.bundle.now) = rw c.in_ok-checked.was at c.requires in
+    locate_none c.args.bundle.now _ (sym passed) (omega (arith, c.from.ensures))
 
 pub returns : goal.returns
 returns c =
-    let passed : refusal (bundle_checks c.args.bundle.now) ≡ 0 = sym c.requires ∙ c.if-refused-ne0.false in
-    let b = c.args.bundle.now in
-    let rows = reads_rows b _ _ c.read16-count.ensures.0 in
-    let offset = reads_offset b _ _ c.read16-place.ensures.0 in
-    locate_opens b _ _ _ _ passed (omega (arith, c.byte_at.ensures.0))
-    c.byte_at-n.ensures.0 rows offset
+    let passed : 0 ≡ refusal (bundle_checks c.args.bundle.now) = rw c.in_ok-checked.was at c.requires in
+    locate_opens c.args.bundle.now _ (sym passed) (omega (arith, c.from.ensures)) _ c.read_entry.ensures.0

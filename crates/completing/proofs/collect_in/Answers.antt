@@ -1,23 +1,20 @@
--- `collect_in`: the lent arrays hold the table's rows with all their tails and links, so the table is copied to the front and completed
+-- `collect_in`: the arrays hold the table's rows with all their tails and links, so the table is copied to the front and completed
 -- from no row written; that is rule 5's table, by `collected`.
-use Rattle.completing.proofs.CollectLaws.{collect_roomy, collected, copied_fits, links_fit}
-use lib.ListN.{length, replicate}
-use native.Mathlib.Omega.{arith}
-use Prim.Native.Nat.{ℕ}
+use Rattle.std.proofs.Common.{arith, ap, List, ℕ, length}
+use lib.ListN.{length-replicate, length-append, length-drop}
+use Rattle.completing.proofs.CollectLaws.{collect_roomy, collected, links_fit}
 use Rattle.completing.proofs.collect_in.Goals as goal
 
-pub copy_from-requires : goal.copy_from-requires
-copy_from-requires c =
-    let f = copied_fits c.requires.0 (length c.args.work.now) c.requires.1 in
-    (omega arith, omega (arith, c.requires.0.whole))
-
 pub append_completed-requires : goal.append_completed-requires
-append_completed-requires c =
-    let p = c.requires in let work = c.copy_from.new.bytes in
-    (collect_roomy p.0 work (omega (arith, p.1, c.copy_from.auto.bytes)), links_fit p.0 (length c.args.next.now) p.2)
+append_completed-requires g c =
+    let work = c.as_flattened_mut-work.ensures.len in
+    let next = c.as_flattened_mut-next.ensures.len in
+    let rows = length-replicate {A = List ℕ} in
+    let copied = ap length c.copy_from_slice.ensures.after in
+    rw c.row_count-rows.ensures (
+      collect_roomy c.requires.0 _ c.args.out.now (omega (arith, work, copied, rows, length-append {A = ℕ}, length-drop {A = ℕ})),
+      links_fit c.requires.0 _ (omega (arith, next, rows)),
+    )
 
 pub returns : goal.returns
-returns c =
-    let p = c.requires in let before = c.args.work.now in let k = c.copy_from in let v = c.append_completed in
-    collected p.0 (replicate {A = ℕ} 6 0) before k.new.bytes _ _ v.result (copied_fits p.0 (length before) p.1) k.auto.bytes
-    k.ensures v.ensures
+returns g c = collected c.requires.0 _ (rw (c.row_count-rows.ensures, c.copy_from_slice.ensures.after) at c.append_completed.ensures)

@@ -1,59 +1,60 @@
 -- The recursion into an array of its own, then 8 or one copy to the buffer.
-use native.Mathlib.Omega.{arith}
-use Prim.Native.Nat.{ℕ, ◌*◌, ◌/◌}
-use lib.ListN.{length, replicate, length-replicate}
-use Rattle.terms.specs.TableChecks.{TableAccepted}
-use Rattle.completing.specs.Collect.{Collects}
-use Rattle.completing.proofs.OperationLaws.{room_fits}
-use Rattle.completing.proofs.CollectLaws.{checked, collect_asks, complete_full, complete_done, rows_hold}
+use Rattle.std.proofs.Common.{arith, ℕ}
+use lib.ListN.{length-take}
+use Rattle.completing.proofs.CollectLaws.{checked, room_fits_array, lent_length, collected_fits, complete_full, complete_done}
 use Rattle.completing.proofs.complete_checked.Goals as goal
 
-pub room_for-room-requires : goal.room_for-room-requires
-room_for-room-requires c =
-    let accepted : TableAccepted c.args.n c.args.table.now = checked c.args.n c.args.table.now c.args.buffer.now c.requires in
-    accepted.some
+pub overflow_mul-table : goal.overflow_mul-table
+overflow_mul-table c = omega (arith, checked c.args.table.n c.args.table.bytes.now c.args.buffer.now c.requires)
 
-pub nonzero_div-table : goal.nonzero_div-table
-nonzero_div-table c =
-    let accepted : TableAccepted c.args.n c.args.table.now = checked c.args.n c.args.table.now c.args.buffer.now c.requires in
-    accepted.some
+-- the part of the array that is lent
+pub slice_bounds-completed-end : goal.slice_bounds-completed-end
+slice_bounds-completed-end c = room_fits_array c.args.table.n c.args.table.bytes.now c.args.buffer.now c.requires c.min-room.ensures
 
-pub collect-count-requires : goal.collect-count-requires
-collect-count-requires c =
-    let asked : Collects c.args.n c.args.table.now (length c.args.table.now / c.args.n)
-    (replicate {A = ℕ} (4096 * 6) 0) c.room_for-room.result = let a = c.args in
-    collect_asks a.n a.table.now a.buffer.now c.requires (replicate {A = ℕ} (4096 * 6) 0) c.room_for-room.result
-    (length-replicate {A = ℕ} (4096 * 6) 0) c.room_for-room.ensures in
-    asked
+pub slice_bounds-out-end : goal.slice_bounds-out-end
+slice_bounds-out-end c = lent_length c.args.table.n c.args.table.bytes.now c.args.buffer.now c.requires c.min-room.ensures
 
-pub returns-then-room-count : goal.returns-then-room-count
-returns-then-room-count c =
+pub collect-requires : goal.collect-requires
+collect-requires c = checked c.args.table.n c.args.table.bytes.now c.args.buffer.now c.requires
+
+-- more rows than room
+pub returns-in_default : goal.returns-in_default
+returns-in_default c =
     let a = c.args in
-    complete_full a.n a.table.now a.buffer.now c.requires c.room_for-room.ensures c.collect-count.ensures c.if-room-count.true
+    complete_full a.table.n a.table.bytes.now a.buffer.now c.requires c.min-room.ensures c.in_default.ensures
 
--- the rows fit the buffer
-pub overflow_mul-count : goal.overflow_mul-count
-overflow_mul-count c =
+-- the rows fit the buffer and what was lent
+pub overflow_mul-size : goal.overflow_mul-size
+overflow_mul-size c =
     let a = c.args in
-    let g = room_fits a.n (length a.buffer.now) c.collect-count.result (omega (arith, c.room_for-room.ensures)) in
+    let fits = collected_fits a.table.n a.table.bytes.now a.buffer.now c.requires c.min-room.ensures c.in-Some.ensures in
     omega arith
 
--- and they lie in the array
-pub copy_from-requires : goal.copy_from-requires
-copy_from-requires c =
-    let asked : Collects c.args.n c.args.table.now (length c.args.table.now / c.args.n)
-    (replicate {A = ℕ} (4096 * 6) 0) c.room_for-room.result = let a = c.args in
-    collect_asks a.n a.table.now a.buffer.now c.requires (replicate {A = ℕ} (4096 * 6) 0) c.room_for-room.result
-    (length-replicate {A = ℕ} (4096 * 6) 0) c.room_for-room.ensures in
+pub slice_bounds-copy_from_slice-end : goal.slice_bounds-copy_from_slice-end
+slice_bounds-copy_from_slice-end c =
     let a = c.args in
-    let count = c.collect-count.result in
-    let g = room_fits a.n (length a.buffer.now) count (omega (arith, c.room_for-room.ensures)) in
-    let h = rows_hold asked count (omega (arith, c.if-room-count.false, asked.most)) in
-    (omega arith, omega arith)
+    let fits = collected_fits a.table.n a.table.bytes.now a.buffer.now c.requires c.min-room.ensures c.in-Some.ensures in
+    omega arith
+
+pub slice_bounds-copy_from_slice-end-2 : goal.slice_bounds-copy_from_slice-end-2
+slice_bounds-copy_from_slice-end-2 c =
+    let a = c.args in
+    let fits = collected_fits a.table.n a.table.bytes.now a.buffer.now c.requires c.min-room.ensures c.in-Some.ensures in
+    omega (arith, length-take {A = ℕ})
+
+pub slice_bounds-copy_from_slice-end-3 : goal.slice_bounds-copy_from_slice-end-3
+slice_bounds-copy_from_slice-end-3 c =
+    let a = c.args in
+    let fits = collected_fits a.table.n a.table.bytes.now a.buffer.now c.requires c.min-room.ensures c.in-Some.ensures in
+    omega (arith, length-take {A = ℕ}, c.collect.auto.out)
+
+pub copy_from_slice-requires : goal.copy_from_slice-requires
+copy_from_slice-requires c =
+    let a = c.args in
+    let fits = collected_fits a.table.n a.table.bytes.now a.buffer.now c.requires c.min-room.ensures c.in-Some.ensures in
+    omega (arith, length-take {A = ℕ}, c.collect.auto.out)
 
 pub returns : goal.returns
 returns c =
     let a = c.args in
-    let copy = c.copy_from in
-    complete_done a.n a.table.now a.buffer.now c.requires copy.new.bytes c.room_for-room.ensures
-    c.collect-count.ensures c.if-room-count.false copy.ensures
+    complete_done a.table.n a.table.bytes.now a.buffer.now c.requires c.min-room.ensures _ c.in-Some.ensures (rw c.copy_from_slice.ensures.after)

@@ -1,21 +1,23 @@
--- `counting::steady` meets its contract: it refuses by the number of its checks; where they pass the largest degree is the value.
-use mathlib.Core.Path.{sym, ◌∙◌}
+-- A refusal is passed on; otherwise the largest degree is the value.
+use borrow.Author.Rules.{rules}
+use mathlib.Core.Path.{◌≡◌, sym}
+use Rattle.std.specs.Prelude.{Err}
 use Rattle.counting.proofs.OperationLaws.{steady_checked, steady_refused, steady_given}
 use Rattle.counting.proofs.steady.Goals as goal
 
-pub returns-then-refused-ne0 : goal.returns-then-refused-ne0
-returns-then-refused-ne0 c =
-    let a = c.args in
-    steady_refused a.n a.table.now c.steady_refusal-refused.result c.steady_refusal-refused.ensures c.if-refused-ne0.true
+pub returns-in_err-check_steady : goal.returns-in_err-check_steady
+returns-in_err-check_steady c =
+    let t = c.args.table in
+    let is : c.from_residual.result ≡ Err c.in_err-check_steady.field-0.0 = search rules in
+    rw is (steady_refused t.n t.bytes.now _ c.in_err-check_steady.ensures)
 
 pub largest_degree-requires : goal.largest_degree-requires
 largest_degree-requires c =
-    let a = c.args in
-    let t = (steady_checked a.n a.table.now (sym c.steady_refusal-refused.ensures ∙ c.if-refused-ne0.false)).accepted in
-    (t.some, t.six)
+    let t = c.args.table in
+    let accepted = (steady_checked t.n t.bytes.now (sym c.in_ok-check_steady.ensures)).accepted in
+    (accepted.some, accepted.six)
 
 pub returns : goal.returns
 returns c =
-    let a = c.args in
-    let refused = c.steady_refusal-refused in
-    steady_given a.n a.table.now refused.result refused.ensures c.if-refused-ne0.false c.largest_degree.result.0 c.largest_degree.ensures
+    let t = c.args.table in
+    steady_given t.n t.bytes.now (sym c.in_ok-check_steady.ensures) _ c.largest_degree.ensures

@@ -1,65 +1,34 @@
+-- Each pair of neighbours is looked at, and listed rows are equal only where two neighbours are.
 use native.Mathlib.Omega.{arith}
-use mathlib.Core.Path.{◌≡◌, ◌∙◌, ap₂}
-use Prim.Native.Nat.{ℕ, ◌-◌, ◌/◌}
+use borrow.Author.Rules.{rules}
+use borrow.Author.Tests.{tests}
+use Prim.Native.Nat.{◌-◌, ◌<◌}
+use mathlib.Core.Path.{◌≡◌, refl, ◌∙◌}
 use lib.ListN.{length}
-use Rattle.checks.proofs.TestLaws.{tests_true, tests_false}
-use Rattle.terms.specs.Monomials.{Table, row_at}
-use Rattle.terms.specs.Rows.{rows}
-use Rattle.terms.proofs.RowsLaws.{length_rows}
+use Rattle.std.proofs.lemmas.Iterator.{YieldsList-from_range, serves_from_Range}
+use Rattle.std.proofs.lemmas.Iterator.Search.{any_from_yields_List}
+use Rattle.terms.specs.Monomials.{Table}
+use Rattle.terms.specs.Rows.{rows_of}
 use Rattle.ordering.specs.Passes.{at}
-use Rattle.distinct.specs.EqualRows.{same_test, tests_equal_rows}
-use Rattle.distinct.proofs.EqualLaws.{found_equal, neighbours_next, neighbours_none}
+use Rattle.distinct.proofs.EqualLaws.{neighbour_test, neighbours_tested}
 use Rattle.distinct.proofs.has_equal_neighbours.Goals as goal
 
-pub row_listed-requires : goal.row_listed-requires
-row_listed-requires c =
-    let table_of : Table = rows c.args.n c.args.table.now in
-    let size : length table_of ≡ length c.args.table.now / c.args.n = length_rows c.args.n c.args.table.now in
-    omega (arith, c.requires.1)
-
-pub row_listed-requires-in-loop-k : goal.row_listed-requires-in-loop-k
-row_listed-requires-in-loop-k c =
-    let table_of : Table = rows c.args.n c.args.table.now in
-    let size : length table_of ≡ length c.args.table.now / c.args.n = length_rows c.args.n c.args.table.now in
-    omega (arith, c.requires.1)
-
-pub same_row-requires : goal.same_row-requires
-same_row-requires c =
-    let table_of : Table = rows c.args.n c.args.table.now in
-    let size : length table_of ≡ length c.args.table.now / c.args.n = length_rows c.args.n c.args.table.now in (
-      omega (arith, c.requires.2.numbers (c.loop-k.k - 1) (omega arith), c.row_listed.ensures),
-      omega (arith, c.requires.2.numbers c.loop-k.k (omega arith), c.row_listed-in-loop-k.ensures),
-    )
-
-pub returns-then-same_row : goal.returns-then-same_row
-returns-then-same_row c =
-    let table_of : Table = rows c.args.n c.args.table.now in
-    let size : length table_of ≡ length c.args.table.now / c.args.n = length_rows c.args.n c.args.table.now in
-    let answered : c.same_row.result
-    ≡ same_test (row_at table_of (at c.args.order.now (c.loop-k.k - 1))) (row_at table_of (at c.args.order.now c.loop-k.k)) = c.same_row.ensures
-    ∙ ap₂ (λ (x y : ℕ). same_test (row_at table_of x) (row_at table_of y)) c.row_listed.ensures c.row_listed-in-loop-k.ensures in
-    tests_true (tests_equal_rows table_of) (found_equal table_of c.args.order.now c.loop-k.k (omega arith) c.same_row.result
-    answered c.requires.2 (omega arith) c.if-same_row.true)
-
-pub overflow_add-k : goal.overflow_add-k
-overflow_add-k c =
-    let table_of : Table = rows c.args.n c.args.table.now in
-    let size : length table_of ≡ length c.args.table.now / c.args.n = length_rows c.args.n c.args.table.now in
-    omega (arith, c.requires.1)
-
-pub loop-k-preserved : goal.loop-k-preserved
-loop-k-preserved c =
-    let table_of : Table = rows c.args.n c.args.table.now in
-    let answered : c.same_row.result
-    ≡ same_test (row_at table_of (at c.args.order.now (c.loop-k.k - 1))) (row_at table_of (at c.args.order.now c.loop-k.k)) = c.same_row.ensures
-    ∙ ap₂ (λ (x y : ℕ). same_test (row_at table_of x) (row_at table_of y)) c.row_listed.ensures c.row_listed-in-loop-k.ensures in (
-      omega arith,
-      neighbours_next table_of c.args.order.now c.loop-k.k (omega arith) c.same_row.result answered
-          c.if-same_row.false c.loop-k.invariant.1,
-    )
+pub any-requires-clause-callable : goal.any-requires-clause-callable
+any-requires-clause-callable c =
+    let a = c.args in
+    let G : Table = rows_of a.table in
+    let listing = c.requires.2 in
+    serves_from_Range (λ k q x. search (rules, tests)) (λ k low high.
+    let within : k < length G = omega arith in
+    let second : at a.order.now k < length G = listing.numbers k within in
+    let first : at a.order.now (k - 1) < length G = listing.numbers (k - 1) (omega arith) in
+    search rules)
 
 pub returns : goal.returns
 returns c =
-    let table_of : Table = rows c.args.n c.args.table.now in
-    let size : length table_of ≡ length c.args.table.now / c.args.n = length_rows c.args.n c.args.table.now in
-    tests_false (tests_equal_rows table_of) (neighbours_none table_of c.args.order.now c.requires.2 (λ k h. c.loop-k.invariant.1 k (omega arith)))
+    let a = c.args in
+    let G : Table = rows_of a.table in
+    let size : c.row_count.result - 1 ≡ length G - 1 = omega arith in
+    any_from_yields_List (neighbour_test G a.order.now c.requires.2) _ _ c.any.result c.any.ensures.ran
+    (YieldsList-from_range _ _ _ refl size) (λ k b q x. search (rules, tests))
+    ∙ neighbours_tested G a.order.now c.requires.2

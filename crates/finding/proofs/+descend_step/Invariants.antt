@@ -5,7 +5,7 @@ use Prim.Native.Nat.{suc, ◌+◌, ◌*◌, ◌-◌}
 use Rattle.finding.proofs.+descend_step.Given as goal
 
 abbrev pub decreases-descend : goal.decreases-descend
-decreases-descend l = 2 * ((l.hi.0 - l.lo.0) + (suc l.n - l.i.0)) + 1
+decreases-descend l = 2 * ((l.at.group.high.0 - l.at.group.low.0) + (suc l.table.n - l.at.i.0)) + 1
 
 abbrev pub decreases-step : goal.decreases-step
-decreases-step l = 2 * ((l.hi.0 - l.lo.0) + (suc l.n - l.i.0))
+decreases-step l = 2 * ((l.at.group.high.0 - l.at.group.low.0) + (suc l.table.n - l.at.i.0))

@@ -1,31 +1,30 @@
--- A refusal is the answer's number; otherwise the answer holds what the descent found, and its steps.
-use native.Mathlib.Omega.{arith}
-use mathlib.Core.Path.{sym, ◌∙◌}
-use Rattle.finding.proofs.OperationLaws.{find_refuses, find_ready, find_length, find_row_lem, find_nothing}
+-- A refusal is passed on; otherwise the answer holds what the descent found, and its steps.
+use borrow.Author.Rules.{rules}
+use mathlib.Core.Path.{◌≡◌, sym, ap, ◌∙◌}
+use Rattle.std.specs.Result.{result_ok}
+use Rattle.division.specs.Scan.{number_found}
+use Rattle.finding.specs.declared.Descended.{Descended}
+use Rattle.finding.proofs.SteppingLaws.{found_ok}
+use Rattle.std.specs.Prelude.{Err}
+use Rattle.finding.proofs.OperationLaws.{find_refuses, find_ready, find_length, find_accepts}
 use Rattle.finding.proofs.find.Goals as goal
 
-pub returns-then-refused-ne0 : goal.returns-then-refused-ne0
-returns-then-refused-ne0 c =
+pub returns-in_err-check_find : goal.returns-in_err-check_find
+returns-in_err-check_find c =
     let a = c.args in
-    let e = c.find_refusal-refused.ensures in
-    find_refuses a.n a.table.now a.query.now c.find_refusal-refused.result (omega (arith, c.if-refused-ne0.true)) e
+    let is : c.from_residual.result ≡ Err c.in_err-check_find.field-0.0 = search rules in
+    rw is (find_refuses a.table.n a.table.bytes.now a.query.now _ c.in_err-check_find.ensures)
 
 pub descend_table-descent-requires : goal.descend_table-descent-requires
 descend_table-descent-requires c =
     let a = c.args in
-    let e = sym c.find_refusal-refused.ensures ∙ c.if-refused-ne0.false in
-    (find_ready a.n a.table.now a.query.now e, find_length a.n a.table.now a.query.now e)
+    let passed = sym c.in_ok-check_find.ensures in
+    (find_ready a.table.n a.table.bytes.now a.query.now passed, find_length a.table.n a.table.bytes.now a.query.now passed)
 
-pub returns-in-Row : goal.returns-in-Row
-returns-in-Row c =
+pub returns : goal.returns
+returns c =
     let a = c.args in
-    let e = sym c.find_refusal-refused.ensures ∙ c.if-refused-ne0.false in
     let d = c.descend_table-descent in
-    find_row_lem a.n a.table.now a.query.now e d.result d.ensures _ c.in-Row.is
-
-pub returns-in-Nothing : goal.returns-in-Nothing
-returns-in-Nothing c =
-    let a = c.args in
-    let e = sym c.find_refusal-refused.ensures ∙ c.if-refused-ne0.false in
-    let d = c.descend_table-descent in
-    find_nothing a.n a.table.now a.query.now e d.result d.ensures c.in-Nothing.is
+    find_accepts a.table.n a.table.bytes.now a.query.now (sym c.in_ok-check_find.ensures) _
+    (ap number_found (c.ok.ensures.value ∙ ap (λ (x : Descended). result_ok x.found) d.ensures) ∙ found_ok _ _)
+    (ap (λ (x : Descended). x.steps) d.ensures)

@@ -1,50 +1,28 @@
+-- `find` gives the first number whose row divides the query.
+use borrow.Author.Rules.{rules}
+use borrow.Author.Tests.{tests}
+use mathlib.Core.Path.{refl, sym, ◌∙◌}
+use Prim.Native.Nat.{ℕ}
+use lib.ListN.{length}
 use native.Mathlib.Omega.{arith}
-use mathlib.Core.Path.{sym, ap, ◌∙◌}
-use Rattle.terms.specs.Rows.{rows}
-use Rattle.terms.proofs.RowsLaws.{length_rows}
-use Rattle.division.specs.Scan.{found_row}
-use Rattle.inside.proofs.FirstLaws.{first_starts, first_stops, first_goes_on, first_past}
+use Rattle.std.proofs.lemmas.Iterator.{YieldsList-from_range, YieldsList-from_map}
+use Rattle.std.proofs.lemmas.Iterator.Adapters.{option_map_id}
+use Rattle.std.proofs.lemmas.Iterator.Consumers.{YieldsList-at}
+use Rattle.std.proofs.lemmas.Iterator.Search.{find_from_yields_List}
+use Rattle.terms.specs.Monomials.{row_at}
+use Rattle.terms.specs.Rows.{rows_of}
+use Rattle.terms.specs.Ideal.{divides_test}
+use Rattle.terms.specs.declared.RowNumber.{RowNumber}
+use Rattle.inside.proofs.FirstLaws.{first_listed}
 use Rattle.inside.proofs.first_dividing.Goals as goal
-
-pub loop-k-init : goal.loop-k-init
-loop-k-init c = (omega arith, first_starts (rows c.args.n c.args.table.now) c.args.query.exponents)
-
-pub row_divides-requires : goal.row_divides-requires
-row_divides-requires c =
-    let a = c.args in
-    let l = c.loop-k in
-    let G = rows a.n a.table.now in
-    let z = length_rows a.n a.table.now in
-    (c.requires.1, omega arith)
-
-pub returns-then-row_divides : goal.returns-then-row_divides
-returns-then-row_divides c =
-    let a = c.args in
-    let l = c.loop-k in
-    let G = rows a.n a.table.now in
-    let z = length_rows a.n a.table.now in
-    sym (ap found_row (l.invariant.1 ∙ first_stops G a.query.exponents l.k (omega arith) (sym c.if-row_divides.true ∙ c.row_divides.ensures)))
-
-pub overflow_add-k : goal.overflow_add-k
-overflow_add-k c =
-    let a = c.args in
-    let l = c.loop-k in
-    let G = rows a.n a.table.now in
-    let z = length_rows a.n a.table.now in
-    omega arith
-
-pub loop-k-preserved : goal.loop-k-preserved
-loop-k-preserved c =
-    let a = c.args in
-    let l = c.loop-k in
-    let G = rows a.n a.table.now in
-    let z = length_rows a.n a.table.now in
-    (omega arith, l.invariant.1 ∙ first_goes_on G a.query.exponents l.k (omega arith) (sym c.if-row_divides.false ∙ c.row_divides.ensures))
 
 pub returns : goal.returns
 returns c =
-    let a = c.args in
-    let l = c.loop-k in
-    let G = rows a.n a.table.now in
-    let z = length_rows a.n a.table.now in
-    sym (ap found_row (l.invariant.1 ∙ first_past G a.query.exponents l.k (omega arith)))
+    let G = rows_of c.args.table in
+    let q = c.args.query.exponents in
+    sym (option_map_id c.find.result)
+    ∙ find_from_yields_List (λ (r : RowNumber). divides_test (row_at G r.0) q) _ _ c.find.result c.find.ensures.ran
+    (YieldsList-from_map _ (λ (k : ℕ). record { 0 = k }) (YieldsList-at c.map.ensures.source (YieldsList-from_range 0 _ (length G) refl (omega arith)))
+    c.map.ensures.closure (λ x r f k. search rules))
+    (λ x b f k. search (rules, tests))
+    ∙ first_listed G q

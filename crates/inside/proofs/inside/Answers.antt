@@ -1,45 +1,36 @@
--- The query is read as a row; what is found is the answer.
+-- A refusal is passed on; otherwise what is found for the query as a row is the answer.
+use borrow.Author.Rules.{rules}
 use native.Mathlib.Omega.{arith}
-use mathlib.Core.Path.{sym, ap, ◌∙◌}
-use Rattle.inside.proofs.OperationLaws.{inside_refuses, inside_passed, one_row, inside_row_lem, inside_nothing}
-use Rattle.terms.specs.Rows.{rows}
+use mathlib.Core.Path.{◌≡◌, sym, ap, ◌∙◌}
+use Rattle.std.specs.Prelude.{Err}
+use Rattle.terms.specs.Rows.{rows_of}
 use Rattle.terms.specs.declared.Row.{Row}
 use Rattle.division.specs.Scan.{found_row}
 use Rattle.inside.specs.FirstDividing.{first_dividing}
+use Rattle.inside.proofs.OperationLaws.{inside_refuses, inside_accepts, inside_passed, inside_length, found_query}
 use Rattle.inside.proofs.inside.Goals as goal
 
-pub returns-then-refused-ne0 : goal.returns-then-refused-ne0
-returns-then-refused-ne0 c =
-    let a = c.args in
-    let e = c.inside_refusal-refused.ensures in
-    inside_refuses a.n a.table.now a.query.now c.inside_refusal-refused.result (omega (arith, c.if-refused-ne0.true)) e
+pub returns-in_err-check_inside : goal.returns-in_err-check_inside
+returns-in_err-check_inside c =
+    let t = c.args.table in
+    let is : c.from_residual.result ≡ Err c.in_err-check_inside.field-0.0 = search rules in
+    rw is (inside_refuses t.n t.bytes.now c.args.query.now _ c.in_err-check_inside.ensures)
 
-pub row_at-requires : goal.row_at-requires
-row_at-requires c =
-    let a = c.args in
-    let e = sym c.inside_refusal-refused.ensures ∙ c.if-refused-ne0.false in
-    ((inside_passed a.n a.table.now a.query.now e).six, one_row a.n a.table.now a.query.now e)
+pub of_bytes-requires : goal.of_bytes-requires
+of_bytes-requires c =
+    let t = c.args.table in
+    let passed = sym c.in_ok-check_inside.ensures in
+    omega (arith, inside_length t.n t.bytes.now c.args.query.now passed, (inside_passed t.n t.bytes.now c.args.query.now passed).six)
 
-pub first_dividing-found-requires : goal.first_dividing-found-requires
-first_dividing-found-requires c =
-    let a = c.args in
-    let e = sym c.inside_refusal-refused.ensures ∙ c.if-refused-ne0.false in
-    let p = inside_passed a.n a.table.now a.query.now e in
-    (p.some, p.six, p.limited)
+pub first_dividing-requires : goal.first_dividing-requires
+first_dividing-requires c =
+    let t = c.args.table in
+    let p = inside_passed t.n t.bytes.now c.args.query.now (sym c.in_ok-check_inside.ensures) in
+    (p.some, p.six)
 
-pub returns-in-Row : goal.returns-in-Row
-returns-in-Row c =
-    let a = c.args in
-    let e = sym c.inside_refusal-refused.ensures ∙ c.if-refused-ne0.false in
-    let d = c.first_dividing-found in
-    let read = c.row_at in
-    let q = d.ensures ∙ ap (λ (r : Row). found_row (first_dividing (rows a.n a.table.now) r.exponents)) read.ensures in
-    inside_row_lem a.n a.table.now a.query.now e d.result q _ c.in-Row.is
-
-pub returns-in-Nothing : goal.returns-in-Nothing
-returns-in-Nothing c =
-    let a = c.args in
-    let e = sym c.inside_refusal-refused.ensures ∙ c.if-refused-ne0.false in
-    let d = c.first_dividing-found in
-    let q = d.ensures ∙ ap (λ (r : Row). found_row (first_dividing (rows a.n a.table.now) r.exponents)) c.row_at.ensures in
-    inside_nothing a.n a.table.now a.query.now e d.result q c.in-Nothing.is
+pub returns : goal.returns
+returns c =
+    let t = c.args.table in
+    inside_accepts t.n t.bytes.now c.args.query.now (sym c.in_ok-check_inside.ensures) _
+    (c.first_dividing.ensures ∙ ap (λ (r : Row). found_row (first_dividing (rows_of t) r.exponents)) c.of_bytes.ensures
+    ∙ found_query (rows_of t) _ c.args.query.now)

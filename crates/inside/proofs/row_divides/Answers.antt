@@ -2,7 +2,7 @@
 use mathlib.Core.Path.{ap, ◌∙◌}
 use Rattle.terms.specs.Monomials.{row_at}
 use Rattle.terms.specs.Ideal.{divides_test}
-use Rattle.terms.specs.Rows.{rows, as_row}
+use Rattle.terms.specs.Rows.{rows_of, as_row}
 use Rattle.terms.specs.declared.Row.{Row}
 use Rattle.inside.proofs.FirstLaws.{padded_divides}
 use Rattle.inside.proofs.row_divides.Goals as goal
@@ -13,4 +13,4 @@ returns c =
     let a = c.args in
     c.divides.ensures
     ∙ ap (λ (u : Row). divides_test u.exponents a.query.exponents) c.row_at.ensures
-    ∙ padded_divides (row_at (rows a.n a.table.now) a.k.0) a.query.exponents
+    ∙ padded_divides (row_at (rows_of a.table) a.k.0) a.query.exponents

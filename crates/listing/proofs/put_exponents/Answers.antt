@@ -1,38 +1,25 @@
-use borrow.Author.Rules.{rules}
 use native.Mathlib.Omega.{arith}
-use mathlib.Core.Path.{◌≡◌, refl, ap, ◌∙◌}
-use Prim.Native.Nat.{ℕ}
-use lib.ListN.{length, take}
-use Rattle.listing.specs.Text.{spaced}
+use mathlib.Core.Path.{ap, ◌∙◌}
+use lib.ListN.{length}
+use lib.Seq.{take_all}
+use Rattle.std.specs.List.{flat_map}
 use Rattle.writing.proofs.WrittenLaws.{wrote_nothing, wrote_then, wrote_as}
-use Rattle.listing.proofs.TextLaws.{spaced_next, spaced_fits}
+use Rattle.listing.proofs.TextLaws.{entry, joined_next, joined_fits, spaced_entries}
 use Rattle.listing.proofs.put_exponents.Goals as goal
 
-pub loop-i-init : goal.loop-i-init
-unfolding spaced
-loop-i-init c = (omega arith, refl, wrote_nothing c.args.out.now c.args.at)
+pub loop-e-init : goal.loop-e-init
+loop-e-init c = wrote_nothing c.args.out.now c.args.at
 
 pub put_exponent-next-requires : goal.put_exponent-next-requires
 put_exponent-next-requires c =
-    let a = c.args in
-    let l = c.loop-i in
-    let six : length a.u.exponents ≡ 6 = search rules in
-    omega (arith, l.invariant.2.ends, l.invariant.1, spaced_fits a.u.exponents l.i a.u.n (omega arith) (omega arith))
+    let row = c.args.row.now in
+    omega (arith, joined_fits entry row c.loop-e.e-index (omega arith), ap length (spaced_entries row))
 
-pub loop-i-preserved : goal.loop-i-preserved
-loop-i-preserved c =
-    let a = c.args in
-    let l = c.loop-i in
-    let six : length a.u.exponents ≡ 6 = search rules in
-    let w = wrote_then l.invariant.2 (omega arith) c.put_exponent-next.ensures in
-    (omega arith, c.put_exponent-next.auto.out ∙ l.invariant.1, wrote_as w (spaced_next a.u.exponents l.i (omega arith)))
-
-pub shape_of-out : goal.shape_of-out
-shape_of-out c = c.loop-i.invariant.1
+pub loop-e-preserved : goal.loop-e-preserved
+loop-e-preserved c =
+    wrote_as (wrote_then c.loop-e.invariant (omega arith) c.put_exponent-next.ensures) (joined_next entry c.args.row.now c.loop-e.e-index (omega arith))
 
 pub returns : goal.returns
 returns c =
-    let a = c.args in
-    let l = c.loop-i in
-    let e : l.i ≡ a.u.n = omega arith in
-    wrote_as l.invariant.2 (ap (λ (k : ℕ). spaced (take k a.u.exponents)) e)
+    let row = c.args.row.now in
+    wrote_as c.loop-e.invariant (ap (flat_map entry) (take_all c.loop-e.e-index row (omega arith)) ∙ spaced_entries row)

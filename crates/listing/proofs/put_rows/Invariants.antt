@@ -1,14 +1,11 @@
--- After k turns the lines of the first k rows are written.
-use mathlib.Core.Path.{◌≡◌}
-use Prim.Native.Nat.{◌-◌, ◌≤◌}
-use lib.ListN.{length}
-use Rattle.terms.specs.Rows.{rows}
-use Rattle.listing.specs.Text.{row_lines}
-use Rattle.writing.specs.Written.{Wrote}
+-- After each turn the lines of so many rows are written, and what the iterator has left are the bytes and the marks of the others.
+use Rattle.std.specs.Iterator.Adapters.{zip_first, zip_second}
+use Rattle.std.specs.Slice.Iter.{iter_rest, chunks_exact_rest, chunks_exact_size}
+use Rattle.listing.proofs.TextLaws.{Listed}
 use Rattle.listing.proofs.put_rows.Given as goal
 
-abbrev pub invariant-loop-k : goal.invariant-loop-k
-invariant-loop-k l = (l.k ≤ l.count) × (length l.out ≡ length l.initial.out) × Wrote l.initial.out l.at (row_lines (rows l.n l.table) l.marks l.k) l.next l.out
-
-abbrev pub decreases-loop-k : goal.decreases-loop-k
-decreases-loop-k l = l.count - l.k
+abbrev pub invariant-loop-row : goal.invariant-loop-row
+invariant-loop-row l =
+    let rows_left = zip_first l.row-iterator in
+    let marks_left = iter_rest (zip_second l.row-iterator) in
+    Listed l.table.n l.table.bytes.now l.marks l.initial.out l.at (chunks_exact_size rows_left) (chunks_exact_rest rows_left) marks_left l.next l.out

@@ -1,14 +1,14 @@
+-- `total_rows` meets its contract: the chain adds up the counts, at most 16 numbers below 65,536.
 use native.Mathlib.Omega.{arith}
-use Rattle.packing.proofs.LoopLaws.{summed_none, summed_more, summed_all}
+use mathlib.Core.Path.{◌≡◌, ◌∙◌}
+use borrow.Author.Rules.{rules}
+use Rattle.std.specs.List.{sum}
+use Rattle.std.proofs.iter.runs.Made.{chains}
+use Rattle.packing.proofs.LoopLaws.{total_sum, total_bound}
 use Rattle.packing.proofs.total_rows.Goals as goal
 
-pub loop-j-init : goal.loop-j-init
-loop-j-init c = summed_none _
-
-pub loop-j-preserved : goal.loop-j-preserved
-loop-j-preserved c =
-    let e = c.count_at-sum.ensures in
-    summed_more c.loop-j.invariant _ (omega arith) e.0 e.1
-
 pub returns : goal.returns
-returns c = let s = c.loop-j.invariant in (summed_all s (omega arith), omega (arith, s.bound, s.passed))
+returns c =
+    let counts = c.args.counts.now in
+    let added : c.sum.result ≡ sum counts = search (rules, chains) in
+    (added ∙ total_sum counts, omega (arith, total_sum counts, total_bound counts (λ j. omega (arith, c.type_inv.counts j))))

@@ -3,7 +3,7 @@
 -- The loop of `append_completed`: what is written, the block, the generators and the last head are those of the walk on lists after the heads below a, and the
 -- chains stand. `take_head` follows one step of that walk: the tails are collected, tested, and where they grow the block is repeated and the tails completed.
 use mathlib.Core.Path.{◌≡◌}
-use Prim.Native.Nat.{suc, ◌+◌, ◌*◌, ◌-◌, ◌≤◌}
+use Prim.Native.Nat.{suc, ◌+◌, ◌*◌}
 use lib.ListN.{length, take}
 use Rattle.terms.specs.Rows.{first_rows}
 use Rattle.slicing.specs.Walk.{Standing}
@@ -12,21 +12,16 @@ use Rattle.slicing.proofs.+append_completed_take_head.Given as goal
 
 abbrev pub invariant-append_completed-loop-a : goal.invariant-append_completed-loop-a
 invariant-append_completed-loop-a l =
-    Standing l.prefix.n (first_rows (suc l.rest) l.rows l.initial.work) l.at (take (l.at * l.prefix.n) l.initial.out) l.rest l.rows l.prefix.exponents l.room l.a l.work l.out l.progress
+    let n = l.prefix.n in
+    let T = first_rows (suc l.rest) l.rows l.initial.work in
+    Standing n T l.at (take (l.at * n) l.initial.out) l.rest l.rows l.prefix.exponents l.a l.work l.out l.progress
     × (take (l.rows * suc l.rest) l.work ≡ take (l.rows * suc l.rest) l.initial.work)
-    × (l.a ≤ l.top)
-    × (length l.work ≡ length l.initial.work)
-    × (length l.out ≡ length l.initial.out)
-    × (length l.next ≡ length l.initial.next)
     × (length l.first ≡ 256)
-    × Linked (first_rows (suc l.rest) l.rows l.initial.work) l.next
-    × Firsts (first_rows (suc l.rest) l.rows l.initial.work) l.first
+    × Linked T l.next
+    × Firsts T l.first
 
 abbrev pub decreases-append_completed : goal.decreases-append_completed
 decreases-append_completed l = 2 * l.rest + 1
 
 abbrev pub decreases-take_head : goal.decreases-take_head
 decreases-take_head l = 2 * l.rest
-
-abbrev pub decreases-append_completed-loop-a : goal.decreases-append_completed-loop-a
-decreases-append_completed-loop-a l = l.top - l.a

@@ -1,17 +1,17 @@
--- `counting::sums::shares` meets its contract. The invariant: the sum so far and the shares of the rows from k on make the whole, and no
--- share exceeds the largest binomial, so 4,096 of them fit; what is known is right. The measure is what is left of the rows.
-use mathlib.Core.Path.{◌≡◌}
-use Prim.Native.Nat.{◌+◌, ◌*◌, ◌-◌, ◌≤◌}
-use lib.ListN.{drop}
-use Rattle.terms.specs.Rows.{rows}
-use Rattle.summing.specs.Sums.{shares_of, Known}
+-- Whatever the shares are, the sum so far and the shares of the rows that are left make the whole; and the sum is at most so many times the
+-- largest binomial.
+use Rattle.std.proofs.Common.{◌≡◌, ℕ, ℤ, ◌*◌, length, drop, ◌+ℤ◌}
+use Rattle.std.specs.List.{zip}
+use Rattle.terms.specs.Rows.{rows_of}
+use Rattle.summing.specs.Sums.{AtRows, largest_share, Within}
+use Rattle.summing.proofs.PassLaws.{pairs_sum}
 use Rattle.summing.proofs.shares.Given as goal
 
-abbrev pub invariant-loop-k : goal.invariant-loop-k
-invariant-loop-k l = (l.k ≤ l.count)
-    × (l.sum + shares_of l.s.0 (drop l.k (rows l.n l.table)) (drop l.k l.marks) ≡ shares_of l.s.0 (rows l.n l.table) l.marks)
-    × (l.sum ≤ l.k * 1085371516236)
-    × Known l.s.0 l.known
-
-abbrev pub decreases-loop-k : goal.decreases-loop-k
-decreases-loop-k l = l.count - l.k
+abbrev pub invariant-loop-row : goal.invariant-loop-row
+invariant-loop-row g l =
+    let pairs = zip (rows_of l.table) l.marks in
+    (goal.iterator-loop-row g).can_next l.row-iterator
+    × (goal.iterator-loop-row g).is_finite l.row-iterator
+    × ((f : ℕ → ℕ → ℤ) → AtRows (λ d m. (r : ℤ) → goal.F-post g l.share d m r → r ≡ f d.0 m)
+    → l.sum +ℤ pairs_sum f (drop (length l.yielded) pairs) ≡ pairs_sum f pairs)
+    × Within (length l.yielded * largest_share) l.sum

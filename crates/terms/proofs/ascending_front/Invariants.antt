@@ -5,7 +5,7 @@ use Rattle.terms.proofs.KeyLaws.{Front}
 use Rattle.terms.proofs.ascending_front.Given as goal
 
 abbrev pub invariant-loop-at : goal.invariant-loop-at
-invariant-loop-at l = (l.k ≤ l.at) × Front l.n l.table l.before l.k l.at
+invariant-loop-at l = (l.k ≤ l.at) × Front l.n l.bytes l.before l.k l.at
 
 abbrev pub decreases-loop-at : goal.decreases-loop-at
-decreases-loop-at l = length l.table - l.at
+decreases-loop-at l = length l.bytes - l.at

@@ -1,27 +1,16 @@
+use mathlib.Core.Path.{sym, ◌∙◌}
 use native.Mathlib.Omega.{arith}
-use mathlib.Core.Path.{refl, sym, ◌∙◌}
 use lib.Dec.{ltb}
-use Rattle.terms.proofs.LoopLaws.{stretch_large, stretch_small, any_stops, any_goes_on, any_past}
+use Rattle.terms.proofs.LoopLaws.{stretch_large, stretch_small, any_stops, any_goes_on}
 use Rattle.terms.proofs.has_large_entry.Goals as goal
-
-pub loop-from-init : goal.loop-from-init
-loop-from-init c = (omega arith, refl)
 
 pub returns-then-largest_of-gt-LARGEST_ENTRY : goal.returns-then-largest_of-gt-LARGEST_ENTRY
 returns-then-largest_of-gt-LARGEST_ENTRY c =
-    let bytes = c.args.bytes.now in
-    let end = c.stretch_end-end.result in
     let large = stretch_large 50 _ _ c.largest_of.ensures (omega arith) in
-    sym (c.loop-from.invariant.1 ∙ any_stops (λ e. ltb 50 e) bytes c.loop-from.from end (omega arith) large)
+    any_stops (λ e. ltb 50 e) _ c.in-Some.stretch.now _ c.in-Some.ensures.steps.1.0 large ∙ sym c.loop-stretch.invariant.2
 
-pub loop-from-preserved : goal.loop-from-preserved
-loop-from-preserved c =
-    let bytes = c.args.bytes.now in
-    let end = c.stretch_end-end.result in
+pub loop-stretch-preserved : goal.loop-stretch-preserved
+loop-stretch-preserved c =
+    let steps = c.in-Some.ensures.steps in
     let small = stretch_small 50 _ _ c.largest_of.ensures (omega arith) in
-    (omega arith, c.loop-from.invariant.1 ∙ any_goes_on (λ e. ltb 50 e) bytes c.loop-from.from end (omega arith) small)
-
-pub returns : goal.returns
-returns c =
-    let l = c.loop-from in
-    sym (l.invariant.1 ∙ any_past (λ e. ltb 50 e) c.args.bytes.now l.from (omega arith))
+    (omega (arith, steps.0, c.loop-stretch.invariant.0), tt, c.loop-stretch.invariant.2 ∙ any_goes_on (λ e. ltb 50 e) _ c.in-Some.stretch.now _ steps.1.0 small)

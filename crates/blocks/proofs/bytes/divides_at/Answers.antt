@@ -1,25 +1,12 @@
-use Rattle.blocks.proofs.ByteLaws.{pairs_start, pairs_stop, pairs_on}
-use native.Mathlib.Omega.{arith}
-use mathlib.Core.Path.{◌≡◌, sym, ◌∙◌}
+-- `divides_at` meets its contract. The exponents are compared pair by pair.
+use Rattle.std.proofs.Common.{rules, tests, arith, ◌+◌, ◌∙◌, ℕ, leb, get_or}
+use Rattle.std.proofs.lemmas.Iterator.Search.{all_from_yields_List}
+use Rattle.blocks.proofs.ByteLaws.{yields_downward, pairs_divide}
 use Rattle.blocks.proofs.bytes.divides_at.Goals as goal
-
-pub loop-left-init : goal.loop-left-init
-loop-left-init c = let a = c.args in (omega arith, pairs_start a.bytes.now a.i a.j a.m (omega arith))
-
-pub returns-then-bytes-j : goal.returns-then-bytes-j
-returns-then-bytes-j c =
-    let a = c.args in
-    let l = c.loop-left in
-    sym (l.invariant.1 ∙ pairs_stop a.bytes.now a.i a.j a.m l.left (omega arith) (omega arith) c.if-bytes-j.true)
-
-pub loop-left-preserved : goal.loop-left-preserved
-loop-left-preserved c =
-    let a = c.args in
-    let l = c.loop-left in
-    (omega arith, l.invariant.1 ∙ pairs_on a.bytes.now a.i a.j a.m l.left (omega arith) (omega arith) c.if-bytes-j.false)
 
 pub returns : goal.returns
 returns c =
-    let l = c.loop-left in
-    let e : l.left ≡ 0 = omega arith in
-    sym (rw e at l.invariant.1)
+    let a = c.args in
+    let bytes = a.bytes.now in
+    all_from_yields_List (λ (x : ℕ). leb (get_or bytes (a.i + x) 0) (get_or bytes (a.j + x) 0)) _ _ _ c.all.ensures.ran
+    (yields_downward a.m c.rev.ensures.source) (λ x b q k. search (rules, tests)) ∙ pairs_divide bytes a.i a.j a.m (omega arith)

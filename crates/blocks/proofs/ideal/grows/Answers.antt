@@ -1,41 +1,20 @@
+-- `grows` meets its contract. The rows behind are asked one by one whether they lie in the ideal.
+use Rattle.std.proofs.Common.{rules, arith, refl, ℕ, ◌≡◌, ◌*◌, ◌+◌, ◌∙◌, ap, take, drop, not}
+use Rattle.std.proofs.lemmas.Iterator.{YieldsList-from_range}
+use Rattle.std.proofs.lemmas.Iterator.Search.{any_from_yields_List}
+use Rattle.terms.specs.Ideal.{inside_test}
+use Rattle.completion.specs.Slices.{fresh}
 use Rattle.blocks.specs.Bytes.{part}
-use Rattle.blocks.proofs.ByteLaws.{times_pred, grows_stop, grows_on, grows_end}
-use native.Mathlib.Omega.{arith}
-use mathlib.Core.Path.{◌≡◌, sym, ◌∙◌}
+use Rattle.blocks.proofs.ByteLaws.{any_rows}
 use Rattle.blocks.proofs.ideal.grows.Goals as goal
 
-pub inside_ideal-requires : goal.inside_ideal-requires
-inside_ideal-requires c =
-    let a = c.args in
-    let l = c.loop-left in
-    let s = times_pred l.left a.m (omega arith) in
-    (omega arith, omega arith)
-
-pub returns-then-not-inside_ideal : goal.returns-then-not-inside_ideal
-returns-then-not-inside_ideal c =
-    let a = c.args in
-    let l = c.loop-left in
-    let outside = sym c.inside_ideal.ensures ∙ c.if-not-inside_ideal.true in
-    sym (l.invariant.1 ∙ grows_stop (part a.m a.count a.from a.bytes.now) a.m l.left l.place a.bytes.now (omega arith) outside)
-
-pub overflow_add-place-in-loop-left : goal.overflow_add-place-in-loop-left
-overflow_add-place-in-loop-left c =
-    let a = c.args in
-    let l = c.loop-left in
-    let s = times_pred l.left a.m (omega arith) in
-    omega arith
-
-pub loop-left-preserved : goal.loop-left-preserved
-loop-left-preserved c =
-    let a = c.args in
-    let l = c.loop-left in
-    let s = times_pred l.left a.m (omega arith) in
-    let inside = sym c.inside_ideal.ensures ∙ c.if-not-inside_ideal.false in
-    (omega arith, l.invariant.1 ∙ grows_on (part a.m a.count a.from a.bytes.now) a.m l.left l.place a.bytes.now (omega arith) inside)
-
 pub returns : goal.returns
+unfolding fresh
 returns c =
     let a = c.args in
-    let l = c.loop-left in
-    let e : l.left ≡ 0 = omega arith in
-    sym (l.invariant.1 ∙ rw e (grows_end (part a.m a.count a.from a.bytes.now) a.m l.place a.bytes.now))
+    let G = part a.m a.count a.from a.bytes.now in
+    let behind = a.from + a.count * a.m in
+    let start : behind + 0 * a.m ≡ behind = omega arith in
+    any_from_yields_List (λ (row : ℕ). not (inside_test G (take a.m (drop (behind + row * a.m) a.bytes.now)))) _ _ _ c.any.ensures.ran
+    (YieldsList-from_range 0 a.more a.more refl (omega arith)) (λ x b q k. search rules)
+    ∙ any_rows a.m a.more behind 0 a.bytes.now (λ u. not (inside_test G u)) ∙ ap (λ (y : ℕ). fresh G (part a.m a.more y a.bytes.now)) start

@@ -1,34 +1,18 @@
-use Rattle.blocks.proofs.ByteLaws.{times_pred, inside_stop, inside_on, inside_end}
-use native.Mathlib.Omega.{arith}
-use mathlib.Core.Path.{◌≡◌, sym, ◌∙◌}
-use lib.ListN.{take, drop}
+-- `inside_ideal` meets its contract. The rows are tested one by one, from the first on.
+use Rattle.std.proofs.Common.{rules, arith, refl, ℕ, ◌≡◌, ◌*◌, ◌+◌, ◌∙◌, ap, take, drop}
+use Rattle.std.proofs.lemmas.Iterator.{YieldsList-from_range}
+use Rattle.std.proofs.lemmas.Iterator.Search.{any_from_yields_List}
+use Rattle.terms.specs.Ideal.{divides_test, inside_test}
+use Rattle.blocks.specs.Bytes.{part}
+use Rattle.blocks.proofs.ByteLaws.{any_rows}
 use Rattle.blocks.proofs.ideal.inside_ideal.Goals as goal
 
-pub divides_at-requires : goal.divides_at-requires
-divides_at-requires c =
-    let a = c.args in
-    let l = c.loop-left in
-    let s = times_pred l.left a.m (omega arith) in
-    (omega arith, omega arith)
-
-pub returns-then-divides_at : goal.returns-then-divides_at
-returns-then-divides_at c =
-    let a = c.args in
-    let l = c.loop-left in
-    let found = sym c.divides_at.ensures ∙ c.if-divides_at.true in
-    sym (l.invariant.1 ∙ inside_stop a.m l.left l.place a.bytes.now (take a.m (drop a.q a.bytes.now)) (omega arith) found)
-
-pub loop-left-preserved : goal.loop-left-preserved
-loop-left-preserved c =
-    let a = c.args in
-    let l = c.loop-left in
-    let s = times_pred l.left a.m (omega arith) in
-    let passed = sym c.divides_at.ensures ∙ c.if-divides_at.false in
-    (omega arith, l.invariant.1 ∙ inside_on a.m l.left l.place a.bytes.now (take a.m (drop a.q a.bytes.now)) (omega arith) passed)
-
 pub returns : goal.returns
+unfolding inside_test
 returns c =
     let a = c.args in
-    let l = c.loop-left in
-    let e : l.left ≡ 0 = omega arith in
-    sym (l.invariant.1 ∙ rw e (inside_end a.m l.place a.bytes.now (take a.m (drop a.q a.bytes.now))))
+    let q = take a.m (drop a.q a.bytes.now) in
+    let start : a.from + 0 * a.m ≡ a.from = omega arith in
+    any_from_yields_List (λ (row : ℕ). divides_test (take a.m (drop (a.from + row * a.m) a.bytes.now)) q) _ _ _ c.any.ensures.ran
+    (YieldsList-from_range 0 a.count a.count refl (omega arith)) (λ x b q k. search rules)
+    ∙ any_rows a.m a.count a.from 0 a.bytes.now (λ u. divides_test u q) ∙ ap (λ (y : ℕ). inside_test (part a.m a.count y a.bytes.now) q) start

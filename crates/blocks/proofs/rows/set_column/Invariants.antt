@@ -1,11 +1,8 @@
--- `set_column` meets its contract. The first j rows have the new exponent.
+-- `set_column` meets its contract. The rows before the present one have the new exponent.
 use Rattle.blocks.proofs.RowLaws.{columned}
 use mathlib.Core.Path.{◌≡◌}
-use Prim.Native.Nat.{◌-◌, ◌≤◌}
+use Prim.Native.Nat.{◌-◌}
 use Rattle.blocks.proofs.rows.set_column.Given as goal
 
-abbrev pub invariant-loop-j : goal.invariant-loop-j
-invariant-loop-j l = (l.j ≤ l.count) × (l.out ≡ columned l.initial.out l.n l.place l.row l.e l.j)
-
-abbrev pub decreases-loop-j : goal.decreases-loop-j
-decreases-loop-j l = l.count - l.j
+abbrev pub invariant-loop-row : goal.invariant-loop-row
+invariant-loop-row l = l.out ≡ columned l.initial.out l.n (l.i.0 - 1) l.fn.first.0 l.e (l.row - l.fn.first.0)

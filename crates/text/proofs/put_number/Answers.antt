@@ -1,0 +1,16 @@
+-- The library writes the digits into a buffer of its own, and these are copied to their place.
+use native.Mathlib.Omega.{arith}
+use mathlib.Core.Path.{◌≡◌}
+use Rattle.std.specs.Fmt
+use Rattle.text.proofs.DecimalLaws.{number_length, number_wrote}
+use Rattle.text.proofs.put_number.Goals as goal
+
+pub copy_from-requires : goal.copy_from-requires
+copy_from-requires c =
+    let text : c.as_bytes-digits.result.now ≡ Fmt.decimal c.args.x = cc in
+    (omega (arith, number_length c.args.x c.ranges.x.fits text), omega arith)
+
+pub returns : goal.returns
+returns c =
+    let text : c.as_bytes-digits.result.now ≡ Fmt.decimal c.args.x = cc in
+    number_wrote c.ranges.x.fits text c.copy_from.ensures

@@ -1,2 +1,3 @@
--- What the exported functions need: their answers fit 32 bits.
+-- What the exported functions need: their answers fit 32 bits, and what they hand out is what the answers say.
 pub mod Bounds
+pub mod ExportLaws

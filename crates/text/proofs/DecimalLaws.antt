@@ -3,6 +3,7 @@
 --   decimal_one, decimal_more   a number below 10 is one digit; another is the number of its tens and then one digit
 --   decimal_value, decimal_injective   read as digits it is the number, so the digits tell numbers apart
 --   decimal_length              a number below 10 ^ (k + 1) has at most k + 1 digits
+--   number_one                  so such a number is written by one byte
 --   library_decimal             the library's digits of a number that a machine word holds are the same
 --   number_length, number_wrote   so its text, copied to a place, is the number written there
 use mathlib.Core.Path.{◌≡◌, refl, sym, ap, ◌∙◌}
@@ -93,6 +94,9 @@ pub decimal_length : (k x : ℕ) → x < 10 ^ suc k → length (decimal x) ≤ s
 decimal_length zero x h = omega (arith, decimal_one_length x h)
 decimal_length (suc k) x h = by_cases (dec_lt x 10) (λ l. omega (arith, decimal_one_length x l))
     (λ g. omega (arith, decimal_more_length x (omega arith), decimal_length k (x / 10) (omega (arith, pow-suc 10 (suc k)))))
+
+pub number_one : {o : List ℕ} {at x r : ℕ} {a : List ℕ} → x < 10 → Wrote o at (digit x ∷ []) r a → Wrote o at (decimal x) r a
+number_one {x = x} h w = wrote_as w (sym (decimal_one x h))
 
 -- ---- the library's decimals
 

@@ -14,18 +14,23 @@ pub fn put_byte(out: &mut [u8], at: usize, byte: u8) -> usize
     at + 1
 }
 
-// Copies count bytes from place `from` to place `to` behind them.
+// Copies count bytes from place `from` to place `to` behind them. The library's copy_within, which copies either way, takes more time and stack.
 pub fn copy_within(bytes: &mut [u8], from: usize, to: usize, count: usize)
     requires { (from + count ≤ to) × (to + count ≤ length bytes.old) }
     ensures { bytes.new ≡ paste bytes.old to (drop from bytes.old) count }
 {
-    bytes.copy_within(from..from + count, to);
+    for i in 0..count {
+        bytes[to + i] = bytes[from + i];
+    }
 }
 
-// Copies count bytes of another array, from place `from` on, to place `to`.
+// Copies count bytes of another array, from place `from` on, to place `to`. The library's copy_from_slice would call memmove, which an archive for C
+// then needs from outside.
 pub fn copy_from(bytes: &mut [u8], to: usize, other: &[u8], from: usize, count: usize)
     requires { (to + count ≤ length bytes.old) × (from + count ≤ length other.now) }
     ensures { bytes.new ≡ paste bytes.old to (drop from other.now) count }
 {
-    bytes[to..to + count].copy_from_slice(&other[from..from + count]);
+    for i in 0..count {
+        bytes[to + i] = other[from + i];
+    }
 }
